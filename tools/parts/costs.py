@@ -72,7 +72,7 @@ RECURSIONS = {
     "crates/tick_syntax/src/printer.rt": (BRACKETS, "push_expression", "push_statement push_braces push_block"),
     "crates/tick_syntax/src/terminals.rt": (OTHERS, "text", ""),
     "crates/ticklab/src/checking.rt": (THREADS, "side_by_side", ""),
-    "crates/ticklab_verdicts/src/ends/wording.rt": (PROCESSES, "push_marked push_numbers", ""),
+    "crates/ticklab_verdicts/src/ends/wording.rt": (PROCESSES, "has_one push_marked push_numbers", ""),
     "crates/ticklab_trace/src/heads.rt": (BRACKETS, "past_expression", "add_block add"),
     "crates/ticklab_trace/src/links.rt": (BRACKETS, "", "add_block add size size_of"),
 }

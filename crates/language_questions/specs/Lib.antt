@@ -1,5 +1,6 @@
 pub mod Characters
 pub mod Directives
+pub mod Ends
 pub mod Extents
 pub mod Lines
 pub mod Missed

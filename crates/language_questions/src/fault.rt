@@ -18,6 +18,8 @@ pub enum Missing {
     Process,
     /// The end of the line, behind a word that says all.
     LineEnd,
+    /// What may stand behind those that are asked whether they end: `wait_free`, `alone`, or the end of the line.
+    Condition,
 }
 
 /// Why a question can't be read. Spans are in bytes of the text that it stands in, a file or an option.
@@ -57,7 +59,7 @@ pub enum QuestionFault {
     /// The word of a question in a comment that asks nothing, behind a `#` or `!` other than the signs that begin it.
     #[error("no question is asked by the comment with the word at bytes {0}")]
     NotAsked(Span),
-    /// A second `#! ends`.
+    /// A second `#! ends` of the same condition.
     #[error("a line before bytes {0} says what has to end")]
     EndsTwice(Span),
     /// What stands after `#! expect` is none of its words. The span is empty where it is no word.

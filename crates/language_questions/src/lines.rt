@@ -1,16 +1,16 @@
 // What the lines of a file ask.
 ghost use Rattle.std.specs.Prelude.{◌≡◌, ◌≢◌, ◌≤◌, IfErr, IfOk, Ok, Err, length, take};
 ghost use Rattle.base.specs.Refusing.{GivesBut};
-ghost use Rattle.language_questions.specs.Lines.{asked_of, each_from, ended_at, ends_from, expected_from, listed_from, listed_with, questions_in, with_comment, with_directive, with_ends, with_expected, with_line, with_never};
+ghost use Rattle.language_questions.specs.Lines.{asked_of, conditioned_at, each_from, ended_at, ends_from, expected_from, listed_from, listed_with, questions_in, with_comment, with_directive, with_ends, with_expected, with_line, with_never};
 ghost use Rattle.language_questions.specs.Missed.{unless_missed};
 ghost use Rattle.language_questions.specs.Reading.{is_memory};
 ghost use Rattle.language_questions.specs.declared.fault.QuestionFault.TheVariants.{NoMemory};
 
 use crate::extents::Extent;
 use crate::fault::{Missing, QuestionFault};
-use crate::questions::{Ends, Expected, NeverLine, Questions};
+use crate::questions::{Condition, Ends, EndsLine, EndsLines, Expected, NeverLine, Questions};
 use crate::reader::Reader;
-use crate::spelled::{Directive, directive_of, expected_of};
+use crate::spelled::{Directive, condition_of, directive_of, expected_of};
 use crate::token::Meaning;
 use base::set_at;
 use base::span::Span;
@@ -31,7 +31,11 @@ pub fn questions_of(
     let bytes = text.as_bytes();
     let mut found = Questions {
         never: Vec::new(alloc),
-        ends: None,
+        ends: EndsLines {
+            fair: None,
+            wait_free: None,
+            alone: None,
+        },
         expected: None,
     };
     let mut start = 0;
@@ -131,29 +135,49 @@ impl Reader<'_> {
         requires { span.end ≤ length self.now.text.now }
         ensures { GivesBut is_memory (λ _. asked_of found.new) result (with_ends self.now.program.now self.now.text.now (asked_of found.old) span) }
     {
-        if found.ends.is_some() {
-            return Err(QuestionFault::EndsTwice(span));
+        let line = self.ends_from(span.end)?;
+        match found.ends.with(line) {
+            None => Err(QuestionFault::EndsTwice(span)),
+            Some(ends) => {
+                found.ends = ends;
+                Ok(())
+            }
         }
-        let ends = self.ends_from(span.end)?;
-        found.ends = Some(ends);
-        Ok(())
     }
 
-    // Who is asked by what stands here.
+    // Who is asked by what stands here, and under which condition.
     #[tactic(auto, unfolding(crate::specs::Lines::ends_from))]
-    fn ends_from(&self, at: usize) -> Result<Ends, QuestionFault>
+    fn ends_from(&self, at: usize) -> Result<EndsLine, QuestionFault>
         requires { at ≤ length self.now.text.now }
         ensures { result ≡ ends_from self.now.program.now self.now.text.now at }
     {
         let span = self.word_span(at);
         let letters = &self.text[span.start..span.end];
         if letters == b"all".as_slice() {
-            return self.ended(Ends::All, span.end);
+            return self.conditioned(Ends::All, span.end);
         }
         if letters == b"none".as_slice() {
-            return self.ended(Ends::Nobody, span.end);
+            return self.conditioned(Ends::Nobody, span.end);
         }
         self.each(at)
+    }
+
+    // The condition under which these are asked, and the end of the question.
+    #[tactic(auto, unfolding(crate::specs::Lines::conditioned_at))]
+    fn conditioned(&self, asked: Ends, at: usize) -> Result<EndsLine, QuestionFault>
+        requires { at ≤ length self.now.text.now }
+        ensures { result ≡ conditioned_at self.now.program.now self.now.text.now asked at }
+    {
+        let span = self.word_span(at);
+        match condition_of(&self.text[span.start..span.end]) {
+            Some(condition) => {
+                self.ended(Missing::LineEnd, EndsLine { asked, condition }, span.end)
+            }
+            None => {
+                let condition = Condition::Fair;
+                self.ended(Missing::Condition, EndsLine { asked, condition }, at)
+            }
+        }
     }
 
     // Adds what is expected by what stands after the word at this span.
@@ -179,25 +203,26 @@ impl Reader<'_> {
         let span = self.word_span(at);
         match expected_of(&self.text[span.start..span.end]) {
             None => Err(QuestionFault::NotExpected(span)),
-            Some(expected) => self.ended(expected, span.end),
+            Some(expected) => self.ended(Missing::LineEnd, expected, span.end),
         }
     }
 
-    // The end of the question, after what says who is asked, or what is expected.
+    // The end of the question, after what is asked or expected, where this may stand.
     #[tactic(auto, unfolding(crate::specs::Lines::ended_at))]
-    fn ended<T: Copy>(&self, said: T, at: usize) -> Result<T, QuestionFault>
-        ensures { result ≡ ended_at self.now.program.now self.now.text.now said at }
+    fn ended<T: Copy>(&self, missing: Missing, said: T, at: usize) -> Result<T, QuestionFault>
+        ensures { result ≡ ended_at self.now.program.now self.now.text.now missing said at }
     {
         let token = self.token(at);
         match token.meaning {
             Meaning::End => Ok(said),
-            _ => Err(token.wrong(Missing::LineEnd)),
+            _ => Err(token.wrong(missing)),
         }
     }
 
     // One number of a process or more.
     #[tactic(auto, unfolding(crate::specs::Lines::each_from))]
-    fn each(&self, at: usize) -> Result<Ends, QuestionFault>
+    fn each(&self, at: usize) -> Result<EndsLine, QuestionFault>
+        requires { at ≤ length self.now.text.now }
         ensures { result ≡ each_from self.now.program.now self.now.text.now at }
     {
         let token = self.token(at);
@@ -210,11 +235,12 @@ impl Reader<'_> {
     // At most so many numbers of processes, after others.
     #[cycle(listed)]
     #[tactic(auto, unfolding(crate::specs::Lines::listed_from))]
-    fn listed(&self, room: usize, marks: [bool; 6], at: usize) -> Result<Ends, QuestionFault>
+    fn listed(&self, room: usize, marks: [bool; 6], at: usize) -> Result<EndsLine, QuestionFault>
+        requires { at ≤ length self.now.text.now }
         ensures { result ≡ listed_from self.now.program.now self.now.text.now room marks at }
     {
         match room {
-            0 => self.ended(Ends::Each(marks), at),
+            0 => self.conditioned(Ends::Each(marks), at),
             _ => self.next_listed(room - 1, marks, at),
         }
     }
@@ -222,9 +248,20 @@ impl Reader<'_> {
     // The next number, and at most so many after it.
     #[cycle(listed)]
     #[tactic(auto, unfolding(crate::specs::Lines::listed_with))]
-    fn next_listed(&self, room: usize, marks: [bool; 6], at: usize) -> Result<Ends, QuestionFault>
+    fn next_listed(
+        &self,
+        room: usize,
+        marks: [bool; 6],
+        at: usize,
+    ) -> Result<EndsLine, QuestionFault>
+        requires { at ≤ length self.now.text.now }
         ensures { result ≡ listed_with self.now.program.now self.now.text.now (listed_from self.now.program.now self.now.text.now room) marks at }
     {
+        let asked = Ends::Each(marks);
+        let span = self.word_span(at);
+        if let Some(condition) = condition_of(&self.text[span.start..span.end]) {
+            return self.ended(Missing::LineEnd, EndsLine { asked, condition }, span.end);
+        }
         let token = self.token(at);
         match token.meaning {
             Meaning::Number(process) if process < u32::from(self.program.processes()) => {
@@ -233,7 +270,10 @@ impl Reader<'_> {
                 self.listed(room, more, token.span.end)
             }
             Meaning::Number(_) => Err(QuestionFault::NoSuchProcess(token.span)),
-            Meaning::End => Ok(Ends::Each(marks)),
+            Meaning::End => Ok(EndsLine {
+                asked,
+                condition: Condition::Fair,
+            }),
             _ => Err(token.wrong(Missing::Process)),
         }
     }

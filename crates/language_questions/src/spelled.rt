@@ -1,11 +1,11 @@
 //! The words and signs of questions, and what each is read as.
 ghost use Rattle.std.specs.Prelude.{◌≡◌};
-ghost use Rattle.language_questions.specs.Directives.{directives, expectations};
+ghost use Rattle.language_questions.specs.Directives.{conditions, directives, expectations};
 ghost use Rattle.language_questions.specs.Signs.{signs};
 ghost use Rattle.language_questions.specs.Spelled.{spelled, spelled_now};
 ghost use Rattle.language_questions.specs.Words.{words};
 
-use crate::questions::Expected;
+use crate::questions::{Condition, Expected};
 use crate::token::{Sign, Word};
 use language_properties::{Junction, Op, Quantifier};
 
@@ -53,6 +53,20 @@ pub fn expected_of(letters: &[u8]) -> Option<Expected>
         ("trap", Expected::Trap),
         ("never", Expected::Never),
         ("stuck", Expected::Stuck),
+        ("not_wait_free", Expected::NotWaitFree),
+        ("not_alone", Expected::NotAlone),
+    ];
+    spelled(&rows, letters)
+}
+
+/// The condition of this word at the end of a line `#! ends`, if it has one.
+#[tactic(auto, unfolding(crate::specs::Spelled::spelled, crate::specs::Spelled::spelled_now))]
+pub fn condition_of(letters: &[u8]) -> Option<Condition>
+    ensures { result ≡ spelled conditions letters.now }
+{
+    let rows = [
+        ("wait_free", Condition::WaitFree),
+        ("alone", Condition::Alone),
     ];
     spelled(&rows, letters)
 }

@@ -25,6 +25,7 @@ impl<'a> Reader<'a> {
     #[tactic(auto, unfolding(crate::specs::Tokens::token_at))]
     pub fn token(&self, at: usize) -> Token
         ensures token { result ≡ token_at self.now.program.now self.now.text.now at }
+        ensures within { at ≤ length self.now.text.now → result.span.end ≤ length self.now.text.now }
         ensures name { result.meaning ≡ Name → IsLetters self.now.text.now result.span }
     {
         self.token_from(Extent::Blanks.end(self.text, at))
@@ -33,6 +34,7 @@ impl<'a> Reader<'a> {
     #[tactic(auto, unfolding(crate::specs::Tokens::token_from))]
     fn token_from(&self, start: usize) -> Token
         ensures token { result ≡ token_from self.now.program.now self.now.text.now start }
+        ensures within { start ≤ length self.now.text.now → result.span.end ≤ length self.now.text.now }
         ensures name { result.meaning ≡ Name → IsLetters self.now.text.now result.span }
     {
         let (meaning, end) = self.piece(start);
@@ -44,6 +46,7 @@ impl<'a> Reader<'a> {
 
     fn piece(&self, from: usize) -> (Meaning, usize)
         ensures piece { result ≡ piece_by self.now.program.now (slice_get self.now.text.now from) self.now.text.now from }
+        ensures within { from ≤ length self.now.text.now → result.1 ≤ length self.now.text.now }
         ensures name { result.0 ≡ Name → IsLetters self.now.text.now (record { start = from; end = result.1 }) }
     {
         match self.text.get(from).copied() {
@@ -72,6 +75,7 @@ impl<'a> Reader<'a> {
     fn word(&self, from: usize) -> (Meaning, usize)
         requires { from < length self.now.text.now }
         ensures piece { result ≡ word_piece self.now.program.now self.now.text.now from }
+        ensures within { result.1 ≤ length self.now.text.now }
         ensures name { IsLetters self.now.text.now (record { start = from; end = result.1 }) }
     {
         let end = Extent::Word.end(self.text, from);
@@ -106,7 +110,8 @@ impl<'a> Reader<'a> {
 
     fn number(&self, from: usize) -> (Meaning, usize)
         requires { from < length self.now.text.now }
-        ensures { result ≡ number_piece self.now.text.now from }
+        ensures piece { result ≡ number_piece self.now.text.now from }
+        ensures within { result.1 ≤ length self.now.text.now }
     {
         let end = Extent::Digits.end(self.text, from);
         match number(&self.text[from..end]) {
@@ -119,6 +124,7 @@ impl<'a> Reader<'a> {
     fn sign_piece(&self, from: usize) -> (Meaning, usize)
         requires { from < length self.now.text.now }
         ensures piece { result ≡ sign_piece self.now.text.now from }
+        ensures within { result.1 ≤ length self.now.text.now }
         ensures no_name { result.0 ≢ Name }
     {
         let rest = &self.text[from..];
@@ -134,6 +140,7 @@ impl<'a> Reader<'a> {
     fn short_piece(&self, from: usize) -> (Meaning, usize)
         requires { from < length self.now.text.now }
         ensures piece { result ≡ short_piece self.now.text.now from }
+        ensures within { result.1 ≤ length self.now.text.now }
         ensures no_name { result.0 ≢ Name }
     {
         match sign_of(&self.text[from..from + 1]) {

@@ -1,8 +1,8 @@
-//! Tests of `language_questions`: each kind of a question is read, a long file, and a long comment.
+//! Tests of `language_questions`: each kind of a question and of a line is read, a long file, and a long comment.
 
 use base::span::Span;
 use language_properties::Property;
-use language_questions::{never_of, questions_of};
+use language_questions::{Ends, Expected, never_of, questions_of};
 use std::test::Fail;
 use tests_shared::{Checked, holds, is_same, repeated};
 
@@ -37,6 +37,52 @@ fn reads_each_kind(rt: HostRuntime) -> Result<(), Fail> {
         holds(read.is_ok(), text)?;
     }
     Ok(())
+}
+
+// Each kind of a line that asks.
+static LINES: [&str; 14] = [
+    "#! never n",
+    "end #!never n # and more",
+    "#! ends all",
+    "#! ends none # and more",
+    "#! ends 2 0",
+    "#! ends all wait_free",
+    "#! ends none alone",
+    "#! ends 2 0 1 0 0 0 alone # and more",
+    "#! expect safe",
+    "#! expect trap",
+    "#! expect never",
+    "#! expect stuck",
+    "#! expect not_wait_free",
+    "#! expect not_alone",
+];
+
+#[test]
+fn reads_each_line(rt: HostRuntime) -> Result<(), Fail> {
+    let checked = Checked::new(rt.alloc(), PROGRAM)?;
+    for text in LINES {
+        let read = questions_of(rt.alloc(), &checked.program, text);
+        holds(read.is_ok(), text)?;
+    }
+    Ok(())
+}
+
+// A line of each condition, in an order of its own.
+const CONDITIONS: &str =
+    "#! ends 0 2 alone\n#! expect not_alone\n#! ends none\n#! ends all wait_free";
+
+#[test]
+fn conditions_stand_side_by_side(rt: HostRuntime) -> Result<(), Fail> {
+    let checked = Checked::new(rt.alloc(), PROGRAM)?;
+    let questions = questions_of(rt.alloc(), &checked.program, CONDITIONS)?;
+    let ends = questions.ends;
+    holds(matches!(ends.fair, Some(Ends::Nobody)), "without a word")?;
+    holds(matches!(ends.wait_free, Some(Ends::All)), "wait_free")?;
+    let first_and_last = [true, false, true, false, false, false];
+    let alone = matches!(ends.alone, Some(Ends::Each(marks)) if marks == first_and_last);
+    holds(alone, "alone")?;
+    let expected = questions.expected;
+    holds(matches!(expected, Some(Expected::NotAlone)), "expected")
 }
 
 // 1,000,000 bytes, of which the last line asks something.

@@ -1,7 +1,7 @@
 //! A limit of memory: a search stops where it holds more bytes.
 
 use searches_explore::{
-    Fault, Limits, MustStop, NoMemory, StepKind, Verdict, Watch, explore, explore_ends,
+    Conditions, Fault, Limits, MustStop, NoMemory, StepKind, Verdict, Watch, explore, explore_ends,
 };
 use std::alloc::Global;
 use std::test::Fail;
@@ -52,7 +52,12 @@ impl Search {
         let (steps, states, watch) = (self.steps, u32::MAX, &mut held);
         let limits = Limits { states, bytes };
         let found = if self.of_ends {
-            number(&explore_ends(alloc, program, &[], MustStop::All, steps, limits, watch)?)
+            let asked = Conditions {
+                fair: MustStop::All,
+                wait_free: MustStop::All,
+                alone: MustStop::All,
+            };
+            number(&explore_ends(alloc, program, &[], asked, steps, limits, watch)?)
         } else {
             number(&explore(alloc, program, &[], steps, limits, watch)?)
         };

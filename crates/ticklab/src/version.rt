@@ -3,5 +3,5 @@
 /// The version; the sum of the sources of `ticketc` and `ticklab`; the logic of the toolchain that proves them.
 pub const VERSION: &str = "\
 1.0\n\
-sources 9b43b4ef830d954eb89aab4bb46406b2745d28dac7ab7f3c414226401ee82dbb\n\
+sources 99447da709ebbe5f5ea0c985aa1a360d6219c02fa14f9df3e14f4be946c82af3\n\
 logic dac8208d650f15bf";

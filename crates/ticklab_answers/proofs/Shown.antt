@@ -26,7 +26,7 @@ module _ {F M W : Type 0} (Reads : ReadsOf F) (ReadsInput : ReadsInputOf F) (Lis
   asked_plain : (printed : Output) (asked : Asked) → Responds Reads ReadsInput Lists Ran hears before after rested ran quiet heard printed asked written response
       → (written ≡ []) ⊎ ((is_drawn asked || is_json printed) ≡ false)
   asked_plain printed (Explore file never limit memory steps) h = inl h.0
-  asked_plain printed (Ends file never process limit memory steps) h = inl h.0
+  asked_plain printed (Ends file never process condition limit memory steps) h = inl h.0
   asked_plain output.Text (Check paths limit memory jobs) h = inr refl
   asked_plain output.ScheduleAlone (Check paths limit memory jobs) h = inr refl
   asked_plain output.Json (Check paths limit memory jobs) h = inl h.4.told.before

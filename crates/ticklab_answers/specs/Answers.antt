@@ -82,8 +82,8 @@ module _ {F M W : Type 0} (Reads : ReadsOf F) (ReadsInput : ReadsInputOf F) (Lis
   abbrev pub Responds : Output → Asked → List (List ℕ) → Response → Type 0
   Responds printed (Explore file never limit memory steps) written response =
       (written ≡ []) × (ran ≡ rested) × Explores Reads ReadsInput hears before after quiet heard file never (limits_of limit memory) steps printed response
-  Responds printed (Ends file never process limit memory steps) written response =
-      (written ≡ []) × (ran ≡ rested) × ExploresEnds Reads ReadsInput hears before after quiet heard file never process (limits_of limit memory) steps printed response
+  Responds printed (Ends file never process condition limit memory steps) written response =
+      (written ≡ []) × (ran ≡ rested) × ExploresEnds Reads ReadsInput hears before after quiet heard file never process condition (limits_of limit memory) steps printed response
   Responds printed (Check paths limit memory jobs) written response =
       (ran ≡ rested) × (heard ≡ quiet) × (at_once : ℕ) × (at_once ≤ max 1 jobs)
       × ChecksAll Reads ReadsInput Lists before after paths (limits_of limit memory) at_once (form_of printed) written response
@@ -112,7 +112,7 @@ module _ {F M W : Type 0} (Reads : ReadsOf F) (ReadsInput : ReadsInputOf F) (Lis
 -- the names of files that a request has
 abbrev pub NamesOf : Asked → List ℕ → Type 0
 NamesOf (Explore file never limit memory steps) name = name ≡ file
-NamesOf (Ends file never process limit memory steps) name = name ≡ file
+NamesOf (Ends file never process condition limit memory steps) name = name ≡ file
 NamesOf (Check paths limit memory jobs) name = IsUnderOne paths name
 NamesOf (Lasso file prefix cycle) name = IsOfThree file prefix cycle name
 NamesOf (Hunt file never seed runs from steps is_uniform jobs) name = name ≡ file

@@ -65,6 +65,7 @@ pub fn response_to<F: Files, O: Write, T, M: Runner, S: Trials, C: Checks, W: Pr
             file,
             never,
             process,
+            condition,
             limit,
             memory,
             steps,
@@ -72,7 +73,7 @@ pub fn response_to<F: Files, O: Write, T, M: Runner, S: Trials, C: Checks, W: Pr
             let never = never.as_slice();
             let limits = limits_of(limit, memory);
             explored_ends(
-                alloc, files, progress, file, never, process, limits, steps, output,
+                alloc, files, progress, file, never, process, condition, limits, steps, output,
             )
         }
         Request::Check {

@@ -16,6 +16,8 @@ compared F.Trap X.Trap = V.AsExpected
 compared F.Never X.Never = V.AsExpected
 compared (F.Stuck states) X.Stuck = V.AsExpected
 compared (F.Endless states) X.Stuck = V.AsExpected
+compared (F.NotWaitFree states) X.NotWaitFree = V.AsExpected
+compared (F.NotAlone states) X.NotAlone = V.AsExpected
 compared (F.Limit states) expected = V.Limit
 compared found expected = V.Otherwise
 

@@ -22,6 +22,8 @@ use Rattle.ticklab_check.specs.declared.tally.Tally.{Tally}
 -- its word, and more where that alone says little
 abbrev pub found_text : Found → List ℕ
 found_text F.Never = codes "broken #! never line"
+found_text (F.NotWaitFree states) = codes "not wait-free"
+found_text (F.NotAlone states) = codes "not alone"
 found_text found = found_word found
 
 -- the word behind `#! expect`
@@ -30,6 +32,8 @@ expected_text X.Safe = codes "safe"
 expected_text X.Trap = codes "trap"
 expected_text X.Never = codes "never"
 expected_text X.Stuck = codes "stuck"
+expected_text X.NotWaitFree = codes "not_wait_free"
+expected_text X.NotAlone = codes "not_alone"
 
 -- how it compares with what was expected: of a safe program that was expected to be safe nothing is said
 abbrev pub verdict_text : Comparison → Expected → List ℕ
@@ -46,9 +50,13 @@ abbrev pub behind_text : Option ℕ → List ℕ
 behind_text None = []
 behind_text (Some states) = codes ", " ++ merged_text states
 
+-- that there are more than so many, behind a comma
+abbrev pub more_text : ℕ → List ℕ
+more_text states = codes ", more than " ++ merged_text states
+
 -- how many states there are, where that is known
 abbrev pub states_text : Found → List ℕ
-states_text (F.Limit states) = codes ", more than " ++ merged_text states
+states_text (F.Limit states) = more_text states
 states_text found = behind_text (states_of found)
 
 -- how many lines of a file ask something, behind a comma

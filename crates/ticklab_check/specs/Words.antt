@@ -10,6 +10,8 @@ found_word F.Trap = codes "trap"
 found_word F.Never = codes "never"
 found_word (F.Stuck states) = codes "stuck"
 found_word (F.Endless states) = codes "endless"
+found_word (F.NotWaitFree states) = codes "not_wait_free"
+found_word (F.NotAlone states) = codes "not_alone"
 found_word (F.Limit states) = codes "limit"
 
 -- how many merged states there are, where that is known
@@ -20,4 +22,6 @@ states_of F.Trap = None
 states_of F.Never = None
 states_of (F.Stuck states) = Some states
 states_of (F.Endless states) = Some states
+states_of (F.NotWaitFree states) = Some states
+states_of (F.NotAlone states) = Some states
 states_of (F.Limit states) = Some states

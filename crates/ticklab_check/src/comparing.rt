@@ -28,7 +28,9 @@ pub fn compared(found: Found, expected: Expected) -> Comparison
         | (Found::Trap, Expected::Trap)
         | (Found::Never, Expected::Never)
         | (Found::Stuck { .. }, Expected::Stuck)
-        | (Found::Endless { .. }, Expected::Stuck) => Comparison::AsExpected,
+        | (Found::Endless { .. }, Expected::Stuck)
+        | (Found::NotWaitFree { .. }, Expected::NotWaitFree)
+        | (Found::NotAlone { .. }, Expected::NotAlone) => Comparison::AsExpected,
         _ => Comparison::Otherwise,
     }
 }

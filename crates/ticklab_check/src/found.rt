@@ -7,7 +7,7 @@ pub enum Found {
     /// No process traps and no line `#! never` breaks, and nobody is asked whether it ends. There are so many merged
     /// states, as in what follows.
     Safe { states: u32 },
-    /// The same, and those asked for end if each process that runs steps again and again.
+    /// The same, and those asked for end, each under its condition.
     Ends { states: u32 },
     /// A process traps.
     Trap,
@@ -18,6 +18,10 @@ pub enum Found {
     /// The same, and they always can; but under some endless schedule, in which each process that runs steps again and
     /// again, they don't.
     Endless { states: u32 },
+    /// The same, and they do. But where others stop somewhere, one that is asked for doesn't end by its own steps.
+    NotWaitFree { states: u32 },
+    /// The same, and none does that. But one that is asked for doesn't end once it steps alone.
+    NotAlone { states: u32 },
     /// A limit is met: there are more states than this.
     Limit { states: u32 },
 }
@@ -32,6 +36,8 @@ pub fn found_word(found: Found) -> &'static str
         Found::Never => "never",
         Found::Stuck { .. } => "stuck",
         Found::Endless { .. } => "endless",
+        Found::NotWaitFree { .. } => "not_wait_free",
+        Found::NotAlone { .. } => "not_alone",
         Found::Limit { .. } => "limit",
     }
 }
@@ -46,6 +52,8 @@ pub fn states_of(found: Found) -> Option<u32>
         | Found::Ends { states }
         | Found::Stuck { states }
         | Found::Endless { states }
+        | Found::NotWaitFree { states }
+        | Found::NotAlone { states }
         | Found::Limit { states } => Some(states),
     }
 }

@@ -9,6 +9,7 @@
 //! Start with `check`.
 #![tactic(auto)]
 
+mod asking;
 mod checked;
 mod checks;
 mod comparing;
@@ -21,6 +22,7 @@ mod source;
 mod tally;
 mod wording;
 
+pub use asking::{asked_for, named_by};
 pub use base::NoMemory;
 pub use checked::{Checked, Comparison, Timed};
 pub use checks::{Checks, InTurn, Stopwatch, timed_file};

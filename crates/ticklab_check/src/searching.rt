@@ -4,17 +4,19 @@ ghost use Rattle.language_questions.specs.Lines.{asked_of, questions_in};
 ghost use Rattle.searches_explore.specs.Lines.{lines_of};
 ghost use Rattle.tick_kinds.specs.Resolution.{resolved};
 ghost use Rattle.ticketc_refusals.specs.Refusals.{ProgramIn};
-ghost use Rattle.ticklab_check.specs.Checking.{ComesTo, IsFound, IsFoundOfAsked, SourceComesTo, asked_for, lines_asked};
-ghost use Rattle.ticklab_check.specs.prover.Answers.{asked_found, fault_of, found_of, known_of};
+ghost use Rattle.ticklab_check.specs.Checking.{ComesTo, IsFound, IsFoundOfAsked, SourceComesTo, lines_asked, one_if};
+ghost use Rattle.ticklab_check.specs.prover.Answers.{asked_found, fault_of, found_of, known_of, own_found};
 
+use crate::asking::asked_for;
 use crate::checked::Checked;
 use crate::comparing::expected_of;
 use crate::found::Found;
 use crate::source::Source;
 use base::NoMemory;
-use language_questions::{Ends, NeverLine, Property, Questions, questions_of};
+use language_questions::{Ends, EndsLines, NeverLine, Property, Questions, questions_of};
 use searches_explore::{
-    Fault, Limits, Liveness, MustStop, StepKind, Unwatched, Verdict, explore, explore_ends,
+    Conditions, Fault, Known, Limits, Liveness, OwnSteps, StepKind, Unwatched, Verdict, explore,
+    explore_ends,
 };
 use std::alloc::{AllocError, Global};
 use std::str;
@@ -88,20 +90,21 @@ fn lines_asked(questions: &Questions) -> usize
     ensures { result ≡ lines_asked (asked_of questions.now) }
 {
     let never = questions.never.as_slice().len();
-    match questions.ends {
-        Some(_) => never + 1,
-        None => never,
-    }
+    let EndsLines {
+        fair,
+        wait_free,
+        alone,
+    } = questions.ends;
+    never + one_if(fair) + one_if(wait_free) + one_if(alone)
 }
 
-// Who is asked for, where a file says this of it.
-fn asked_for(ends: Option<Ends>) -> Option<MustStop>
-    ensures { result ≡ asked_for ends }
+// 1 for a line that there is.
+fn one_if(line: Option<Ends>) -> usize
+    ensures { result ≡ one_if line }
 {
-    match ends {
-        None | Some(Ends::Nobody) => None,
-        Some(Ends::All) => Some(MustStop::All),
-        Some(Ends::Each(marks)) => Some(MustStop::Each(marks)),
+    match line {
+        Some(_) => 1,
+        None => 0,
     }
 }
 
@@ -120,7 +123,7 @@ fn found_in(
     alloc: Global,
     program: &Program,
     lines: &[Property],
-    asked: Option<MustStop>,
+    asked: Option<Conditions>,
     limits: Limits,
 ) -> Result<Found, NoMemory>
     ensures { IfOk result (IsFound (resolved program.now) (lines_of lines.now) limits asked) }
@@ -160,7 +163,7 @@ fn found_of_asked(
     alloc: Global,
     program: &Program,
     lines: &[Property],
-    asked: MustStop,
+    asked: Conditions,
     limits: Limits,
 ) -> Result<Found, NoMemory>
     ensures { IfOk result (IsFoundOfAsked (resolved program.now) (lines_of lines.now) limits asked) }
@@ -170,7 +173,7 @@ fn found_of_asked(
     Ok(asked_found(&explored))
 }
 
-fn asked_found(explored: &Verdict<Fault, Liveness>) -> Found
+fn asked_found(explored: &Verdict<Fault, Known>) -> Found
     ensures { result ≡ asked_found explored.now }
 {
     match explored {
@@ -180,12 +183,23 @@ fn asked_found(explored: &Verdict<Fault, Liveness>) -> Found
     }
 }
 
-fn known_of(known: &Liveness, states: u32) -> Found
+fn known_of(known: &Known, states: u32) -> Found
     ensures { result ≡ known_of known.now states }
 {
-    match known {
+    match known.fair {
         Liveness::Stuck { .. } => Found::Stuck { states },
         Liveness::Endless { .. } => Found::Endless { states },
-        Liveness::Ends => Found::Ends { states },
+        Liveness::Ends => own_found(&known.wait_free, &known.alone, states),
+    }
+}
+
+// The same of the own steps of processes.
+fn own_found(wait_free: &OwnSteps, alone: &OwnSteps, states: u32) -> Found
+    ensures { result ≡ own_found wait_free.now alone.now states }
+{
+    match (wait_free, alone) {
+        (OwnSteps::ForEver { .. }, _) => Found::NotWaitFree { states },
+        (OwnSteps::Stop, OwnSteps::ForEver { .. }) => Found::NotAlone { states },
+        (OwnSteps::Stop, OwnSteps::Stop) => Found::Ends { states },
     }
 }

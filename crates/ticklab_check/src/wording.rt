@@ -1,7 +1,7 @@
 // Adds what is told of files to a text.
 ghost use Rattle.std.specs.Prelude.{◌≡◌, ◌++◌, ◌==◌, IfOk, OnOk};
 ghost use Rattle.std.specs.Fmt.{decimal};
-ghost use Rattle.ticklab_check.specs.Wording.{behind_text, checked_text, expected_text, file_text, found_text, lines_text, merged_text, searched_line, seconds_text, states_text, tally_text, verdict_text};
+ghost use Rattle.ticklab_check.specs.Wording.{behind_text, checked_text, expected_text, file_text, found_text, lines_text, merged_text, more_text, searched_line, seconds_text, states_text, tally_text, verdict_text};
 
 use crate::checked::{Checked, Comparison, Timed};
 use crate::comparing::compared;
@@ -71,7 +71,14 @@ fn found_text(found: Found) -> &'static str
 {
     match found {
         Found::Never => "broken #! never line",
-        _ => found_word(found),
+        Found::NotWaitFree { .. } => "not wait-free",
+        Found::NotAlone { .. } => "not alone",
+        Found::Safe { .. }
+        | Found::Ends { .. }
+        | Found::Trap
+        | Found::Stuck { .. }
+        | Found::Endless { .. }
+        | Found::Limit { .. } => found_word(found),
     }
 }
 
@@ -98,6 +105,8 @@ pub fn expected_text(expected: Expected) -> &'static str
         Expected::Trap => "trap",
         Expected::Never => "never",
         Expected::Stuck => "stuck",
+        Expected::NotWaitFree => "not_wait_free",
+        Expected::NotAlone => "not_alone",
     }
 }
 
@@ -105,12 +114,17 @@ fn push_states(text: &mut Vec<u8>, found: Found) -> Added
     ensures { OnOk result (text.new.items ≡ text.old.items ++ states_text found) }
 {
     match found {
-        Found::Limit { states } => {
-            push(text, ", more than ")?;
-            push_merged(text, states)
-        }
+        Found::Limit { states } => push_more(text, states),
         _ => push_behind(text, states_of(found)),
     }
+}
+
+// That there are more than so many, behind a comma.
+fn push_more(text: &mut Vec<u8>, states: u32) -> Added
+    ensures { OnOk result (text.new.items ≡ text.old.items ++ more_text states) }
+{
+    push(text, ", more than ")?;
+    push_merged(text, states)
 }
 
 // How many there are, behind a comma.

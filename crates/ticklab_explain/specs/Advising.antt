@@ -11,7 +11,7 @@ use Rattle.ticklab_explain.specs.Pieces.{is_one_of}
 use Rattle.ticklab_explain.specs.Rows.{Slip, slips_in}
 use Rattle.ticklab_explain.specs.declared.advice.TheConstants.{COUNTED_FROM_ZERO}
 use Rattle.ticklab_explain.specs.declared.advising.TheConstants.{BEGIN_OF_ASKING, GREATEST_NUMBER, MOST_LEVELS, ONE_IS_EXPECTED, ONE_LINE_NAMES_ALL, RENAME_THE_ROW, TAKE_ANOTHER_NAME, WORDS_OF_EXPECT, WRITE_INTO_A_ROW}
-use Rattle.ticklab_explain.specs.declared.question_slips.TheConstants.{BEGINNINGS, CHARACTERS, CLOSINGS, CLOSING_STANDS_HERE, COLONS, COLON_STANDS_HERE, COMMAS, COMMA_STANDS_HERE, ENDS, END_STANDS_HERE, INDEXES, INDEX_ENDS, INDEX_END_STANDS_HERE, INDEX_STANDS_HERE, LINE_ENDS_HERE, NAMES, NAME_STANDS_HERE, OPERANDS, OPERAND_STANDS_HERE, PARTS_OF_QUESTIONS, PROCESSES, PROCESS_STANDS_HERE, STRANGERS, WHAT_IS_SEEN, WORDS_OF_QUESTIONS}
+use Rattle.ticklab_explain.specs.declared.question_slips.TheConstants.{BEGINNINGS, CHARACTERS, CLOSINGS, CLOSING_STANDS_HERE, COLONS, COLON_STANDS_HERE, COMMAS, COMMA_STANDS_HERE, CONDITIONS, CONDITION_STANDS_HERE, ENDS, END_STANDS_HERE, EXPECTATIONS, INDEXES, INDEX_ENDS, INDEX_END_STANDS_HERE, INDEX_STANDS_HERE, LINE_ENDS, LINE_ENDS_HERE, NAMES, NAME_STANDS_HERE, OPERANDS, OPERAND_STANDS_HERE, PARTS_OF_QUESTIONS, PROCESSES, PROCESS_STANDS_HERE, STRANGERS, WHAT_IS_SEEN, WORDS_OF_QUESTIONS}
 
 -- rows, and the hint where none of them has the letters
 abbrev pub Advice : Type 0
@@ -33,7 +33,8 @@ missing_advice I.Name = (slips_in NAMES.now, NAME_STANDS_HERE.now)
 missing_advice (I.Sign sign) = sign_advice sign
 missing_advice I.End = (slips_in ENDS.now, END_STANDS_HERE.now)
 missing_advice I.Process = (slips_in PROCESSES.now, PROCESS_STANDS_HERE.now)
-missing_advice I.LineEnd = ([], LINE_ENDS_HERE.now)
+missing_advice I.LineEnd = (slips_in LINE_ENDS.now, LINE_ENDS_HERE.now)
+missing_advice I.Condition = (slips_in CONDITIONS.now, CONDITION_STANDS_HERE.now)
 
 abbrev pub advice_of : QuestionFault → Advice
 advice_of (F.BadCharacter span) = (slips_in CHARACTERS.now, PARTS_OF_QUESTIONS.now)
@@ -48,7 +49,7 @@ advice_of (F.NoSuchProcess span) = ([], COUNTED_FROM_ZERO.now)
 advice_of (F.NoSuchWord span) = (slips_in BEGINNINGS.now, WORDS_OF_QUESTIONS.now)
 advice_of (F.NotAsked span) = ([], BEGIN_OF_ASKING.now)
 advice_of (F.EndsTwice span) = ([], ONE_LINE_NAMES_ALL.now)
-advice_of (F.NotExpected span) = ([], WORDS_OF_EXPECT.now)
+advice_of (F.NotExpected span) = (slips_in EXPECTATIONS.now, WORDS_OF_EXPECT.now)
 advice_of (F.ExpectTwice span) = ([], ONE_IS_EXPECTED.now)
 advice_of F.NoMemory = ([], [])
 

@@ -6,10 +6,10 @@ ghost use Rattle.ticklab_explain.specs.Rows.{slips_of};
 use crate::advice::COUNTED_FROM_ZERO;
 use crate::question_slips::{
     BEGINNINGS, CHARACTERS, CLOSING_STANDS_HERE, CLOSINGS, COLON_STANDS_HERE, COLONS,
-    COMMA_STANDS_HERE, COMMAS, END_STANDS_HERE, ENDS, INDEX_END_STANDS_HERE, INDEX_ENDS,
-    INDEX_STANDS_HERE, INDEXES, LINE_ENDS_HERE, NAME_STANDS_HERE, NAMES, OPERAND_STANDS_HERE,
-    OPERANDS, PARTS_OF_QUESTIONS, PROCESS_STANDS_HERE, PROCESSES, STRANGERS, Slip, WHAT_IS_SEEN,
-    WORDS_OF_QUESTIONS,
+    COMMA_STANDS_HERE, COMMAS, CONDITION_STANDS_HERE, CONDITIONS, END_STANDS_HERE, ENDS,
+    EXPECTATIONS, INDEX_END_STANDS_HERE, INDEX_ENDS, INDEX_STANDS_HERE, INDEXES, LINE_ENDS,
+    LINE_ENDS_HERE, NAME_STANDS_HERE, NAMES, OPERAND_STANDS_HERE, OPERANDS, PARTS_OF_QUESTIONS,
+    PROCESS_STANDS_HERE, PROCESSES, STRANGERS, Slip, WHAT_IS_SEEN, WORDS_OF_QUESTIONS,
 };
 use crate::words::is_one_of;
 use language_questions::{Missing, QuestionFault, Sign};
@@ -29,9 +29,11 @@ const RENAME_THE_ROW: &str = "give the register row another name";
 const BEGIN_OF_ASKING: &str =
     "a comment that asks begins with `#!`; one that doesn't ask is written as `# off: never ..`";
 
-const ONE_LINE_NAMES_ALL: &str = "one line names all of them, as `#! ends 0 2`";
+const ONE_LINE_NAMES_ALL: &str =
+    "a file has at most one line `#! ends ..`, one `#! ends .. wait_free` and one `#! ends .. alone`: name all in one line, as in `#! ends 0 2`";
 
-const WORDS_OF_EXPECT: &str = "behind `#! expect` stands `safe`, `trap`, `never` or `stuck`";
+const WORDS_OF_EXPECT: &str =
+    "behind `#! expect` stands `safe`, `trap`, `never`, `stuck`, `not_wait_free` or `not_alone`";
 
 const ONE_IS_EXPECTED: &str = "one thing is expected of a file";
 
@@ -73,7 +75,7 @@ fn advice_of(fault: QuestionFault) -> (&'static [Slip], &'static str)
         QuestionFault::NoSuchWord(_) => (BEGINNINGS, WORDS_OF_QUESTIONS),
         QuestionFault::NotAsked(_) => (&[], BEGIN_OF_ASKING),
         QuestionFault::EndsTwice(_) => (&[], ONE_LINE_NAMES_ALL),
-        QuestionFault::NotExpected(_) => (&[], WORDS_OF_EXPECT),
+        QuestionFault::NotExpected(_) => (EXPECTATIONS, WORDS_OF_EXPECT),
         QuestionFault::ExpectTwice(_) => (&[], ONE_IS_EXPECTED),
         QuestionFault::NoMemory => (&[], ""),
     }
@@ -89,7 +91,8 @@ fn missing_advice(missing: Missing) -> (&'static [Slip], &'static str)
         Missing::Sign(sign) => sign_advice(sign),
         Missing::End => (ENDS, END_STANDS_HERE),
         Missing::Process => (PROCESSES, PROCESS_STANDS_HERE),
-        Missing::LineEnd => (&[], LINE_ENDS_HERE),
+        Missing::LineEnd => (LINE_ENDS, LINE_ENDS_HERE),
+        Missing::Condition => (CONDITIONS, CONDITION_STANDS_HERE),
     }
 }
 

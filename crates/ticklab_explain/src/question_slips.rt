@@ -12,6 +12,41 @@ const OPERATORS: &[&str] = &["+", "-", "*", "/", "%", "<", "<=", "==", "!=", "an
 const BRACKETS_OF_ITS_OWN: &str =
     "an operation in another has brackets of its own, as in `1 < (sum p: row[p])`";
 
+// What is written where `wait_free` is meant. Of `wait-free` this is what stands in front of the `-`.
+const WAIT_FREE_MISSPELT: &[&str] = &[
+    "wait",
+    "Wait",
+    "waitfree",
+    "waitFree",
+    "Waitfree",
+    "WaitFree",
+    "wait_Free",
+    "Wait_free",
+    "Wait_Free",
+    "WAIT_FREE",
+];
+
+const WRITE_WAIT_FREE: &str = "`wait_free` is written with `_`, and in small letters";
+
+// Other words for `alone`. Of `obstruction-free` this is what stands in front of the `-`.
+const ALONE_MEANT: &[&str] = &[
+    "Alone",
+    "ALONE",
+    "solo",
+    "obstruction",
+    "obstructionfree",
+    "obstructionFree",
+    "obstruction_free",
+];
+
+const WRITE_ALONE: &str =
+    "`alone` asks whether each ends once it steps alone, as in `#! ends all alone`";
+
+// What a line without a word asks.
+const FAIR_MEANT: &[&str] = &["fair", "fairly", "Fair"];
+
+const WRITE_NO_WORD: &str = "leave this word out: a line without a word asks about fair schedules";
+
 // At a character that no question has.
 pub static CHARACTERS: &[Slip] = &[
     (
@@ -157,10 +192,37 @@ pub static PROCESSES: &[Slip] = &[
         "numbers stand side by side, as in `#! ends 0 2`",
     ),
     (&["-"], "each number is written out: `#! ends 0 1 2`"),
+    (
+        &["wait_free", "alone"],
+        "who is asked stands in front of this, as in `#! ends all wait_free`",
+    ),
+    (WAIT_FREE_MISSPELT, WRITE_WAIT_FREE),
+    (ALONE_MEANT, WRITE_ALONE),
+    (FAIR_MEANT, WRITE_NO_WORD),
 ];
 
 pub const PROCESS_STANDS_HERE: &str =
-    "behind `#! ends` stands `all`, `none`, or numbers of processes";
+    "behind `#! ends` stands `all`, `none`, or numbers of processes, and then perhaps `wait_free` or `alone`";
+
+// Where what is asked of processes may stand.
+pub static CONDITIONS: &[Slip] = &[
+    (WAIT_FREE_MISSPELT, WRITE_WAIT_FREE),
+    (ALONE_MEANT, WRITE_ALONE),
+    (FAIR_MEANT, WRITE_NO_WORD),
+    (
+        &[",", "and"],
+        "words stand side by side, as in `#! ends all wait_free`",
+    ),
+];
+
+pub const CONDITION_STANDS_HERE: &str =
+    "here stands `wait_free`, `alone`, or nothing but a comment, which begins with `#`";
+
+// Where a line ends.
+pub static LINE_ENDS: &[Slip] = &[(
+    &["wait_free", "alone"],
+    "`wait_free` and `alone` stand behind `#! ends ..`, one of them in a line",
+)];
 
 pub const LINE_ENDS_HERE: &str = "nothing stands here but a comment, which begins with `#`";
 
@@ -201,9 +263,34 @@ pub static BEGINNINGS: &[Slip] = &[
         "a line says what must never hold: `#! never not row[0]`",
     ),
     (
+        &["wait_free", "alone"],
+        "this stands behind those who are asked, as in `#! ends all wait_free`",
+    ),
+    (
         &["Never", "NEVER", "Ends", "ENDS", "Expect", "EXPECT"],
         "words are written in small letters",
     ),
 ];
 
 pub const WORDS_OF_QUESTIONS: &str = "behind `#!` stands `never`, `ends` or `expect`";
+
+// At a word that nothing is expected by.
+pub static EXPECTATIONS: &[Slip] = &[
+    (
+        &["wait_free", "alone"],
+        "`safe` stands where this is so; `not_wait_free` and `not_alone` say that it isn't",
+    ),
+    (
+        &[
+            "not",
+            "Not",
+            "not_wait",
+            "not_waitfree",
+            "notwaitfree",
+            "notWaitFree",
+            "notalone",
+            "notAlone",
+        ],
+        "`not_wait_free` and `not_alone` are written with `_`, and in small letters",
+    ),
+];

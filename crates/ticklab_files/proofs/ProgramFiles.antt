@@ -1,9 +1,9 @@
 -- The program of a file whose lines can be read, and why there is none.
-use Rattle.std.proofs.Common.{◌≡◌, ℕ, List, Ok, Option, refl}
+use Rattle.std.proofs.Common.{◌≡◌, ℕ, List, Ok, refl}
 use Rattle.base.specs.Plain.{Name, WholeProgram}
 use Rattle.language_properties.specs.Properties.{Formula}
 use Rattle.language_questions.specs.Lines.{Asked, questions_in}
-use Rattle.language_questions.specs.declared.questions.Ends.{Ends}
+use Rattle.language_questions.specs.declared.questions.EndsLines.{EndsLines}
 use Rattle.ticketc_refusals.specs.Refusals.{IsProgramRefused, ProgramIn}
 use Rattle.ticklab_explain.specs.Reports.{Tells}
 use Rattle.ticklab_files.specs.Asking.{AsksNever, IsFileRefused, IsOf, IsProgramFile, TellsQuestion, TextPlace, no_program, no_question}
@@ -20,7 +20,7 @@ module _ (input : List ℕ) (a : WholeProgram Name) (asked : Asked) (is : Progra
   is_of = (record { program = a; is = is; asked = asked; asks = asks }, refl)
 
 -- with what must never hold of it
-module _ {name : List ℕ} {texts : List (List ℕ)} {input : List ℕ} {a : WholeProgram Name} {ends : Option Ends} {lines : List Formula}
+module _ {name : List ℕ} {texts : List (List ℕ)} {input : List ℕ} {a : WholeProgram Name} {ends : EndsLines} {lines : List Formula}
     {places : List TextPlace} (known : IsAsked name texts input a ends lines places) where
   abbrev pub asks_of : AsksNever texts input
   asks_of = record {

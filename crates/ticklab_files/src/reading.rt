@@ -18,7 +18,7 @@ use crate::fault::AnswerFault;
 use crate::stop::NoAnswer;
 use base::NoMemory;
 use code_core::Code;
-use language_questions::{Ends, Questions};
+use language_questions::{EndsLines, Questions};
 use language_schedules::{Move, ScheduleFault, read_moves, read_schedule};
 use std::alloc::Global;
 use tick_kinds::Program;
@@ -40,7 +40,7 @@ pub fn program_of(alloc: Global, name: &str, input: &[u8]) -> Result<Program, No
 pub struct AskedProgram<'a> {
     pub spelled: SpelledProgram,
     /// Who is asked whether they end, where the file says it.
-    pub ends: Option<Ends>,
+    pub ends: EndsLines,
     pub lines: NeverLines<'a>,
 }
 

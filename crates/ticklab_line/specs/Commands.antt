@@ -7,6 +7,8 @@ use Rattle.std.specs.Option.{option_map_or}
 use Rattle.clap.specs.Walk.{Row, Text, all_of, first_of}
 use Rattle.clap.specs.Simple.{App, new_app, on_top, with_rule}
 use Rattle.clap.specs.declared.builder.value_parser.ValueParser.TheVariants.{Signed, Unsigned}
+use Rattle.language_questions.specs.declared.questions.Condition.{Condition}
+use Rattle.language_questions.specs.declared.questions.Condition.TheVariants.{Alone, Fair, WaitFree}
 use Rattle.ticklab_line.specs.CommandLine.{ends_rule, flag_rule, from_one_to, further_rule, jobs_rule, json_rule, limit_rule, memory_rule, number_rule, processes_rule, repeated_rule, text_rule, threads_rule, up_to, with_app, with_file, word_rule, words_rule}
 use Rattle.ticklab_line.specs.Found.{for_file, for_number, for_number_or, is_set, list_of, number_of, number_or}
 use Rattle.ticklab_line.specs.declared.commands.Steps.{Steps}
@@ -24,13 +26,15 @@ abbrev pub Asked : Type 0
 Asked = Request Text (List Text)
 
 abbrev pub explore_app : App
-explore_app = with_rule (with_rule (with_rule (with_rule (with_rule (with_rule (with_rule (with_rule (with_file (codes "explore")) limit_rule) memory_rule)
+explore_app = with_rule (with_rule (with_rule (with_rule (with_rule (with_rule (with_rule (with_rule (with_rule (with_rule (with_file (codes "explore")) limit_rule) memory_rule)
     (flag_rule (codes "merged")))
     (flag_rule (codes "single")))
     (repeated_rule (codes "never")))
     (flag_rule (codes "schedule-only")))
     json_rule)
-    ends_rule
+    ends_rule)
+    (flag_rule (codes "wait-free")))
+    (flag_rule (codes "alone"))
 
 abbrev pub check_app : App
 check_app = with_rule (with_rule (with_rule (with_rule (with_rule (new_app (codes "check")) (words_rule (codes "path")))
@@ -108,12 +112,16 @@ abbrev pub schedules_of : List Text → List Row → Option Asked
 schedules_of never rows = for_file rows (λ file. for_number_or 32 (codes "limit") 4294967295 rows (λ limit.
     for_number_or 32 (codes "memory") 1000 rows (λ memory. Some (Explore file never limit memory (steps_in rows)))))
 
-abbrev pub schedules_in : List Row → Option Asked
-schedules_in rows = schedules_of (list_of (codes "never") rows) rows
+-- the condition under which it is asked who ends
+abbrev pub condition_in : List Row → Condition
+condition_in rows =
+    if is_set (codes "wait-free") rows then WaitFree
+    else if is_set (codes "alone") rows then Alone
+    else Fair
 
 abbrev pub ends_of : List Text → Option ℕ → List Row → Option Asked
 ends_of never process rows = for_file rows (λ file. for_number_or 32 (codes "limit") 4294967295 rows (λ limit.
-    for_number_or 32 (codes "memory") 1000 rows (λ memory. Some (Ends file never process limit memory (steps_in rows)))))
+    for_number_or 32 (codes "memory") 1000 rows (λ memory. Some (Ends file never process (condition_in rows) limit memory (steps_in rows)))))
 
 -- no text after `--ends`, or one
 abbrev pub ends_in : List Text → List Row → List Text → Option Asked
@@ -121,8 +129,20 @@ ends_in never rows [] = ends_of never None rows
 ends_in never rows (process ∷ []) = option_and_then (λ process. ends_of never (Some process) rows) (number_of 8 process)
 ends_in never rows texts = None
 
+abbrev pub unless_conditioned : Condition → List Text → List Row → Option Asked
+unless_conditioned Fair never rows = schedules_of never rows
+unless_conditioned _ never rows = ends_of never None rows
+
+-- without `--ends`: all schedules; and who ends under a condition, where one is asked for
+abbrev pub without_ends : List Text → List Row → Option Asked
+without_ends never rows = unless_conditioned (condition_in rows) never rows
+
+-- with these texts of what must never hold
+abbrev pub explore_of : List Text → List Row → Option Asked
+explore_of never rows = option_map_or (ends_in never rows) (all_of (codes "ends") rows) (without_ends never rows)
+
 abbrev pub explore_in : List Row → Option Asked
-explore_in rows = option_map_or (ends_in (list_of (codes "never") rows) rows) (all_of (codes "ends") rows) (schedules_in rows)
+explore_in rows = explore_of (list_of (codes "never") rows) rows
 
 -- files and folders, of which there is at least one
 abbrev pub check_of : List Text → List Row → Option Asked
@@ -222,7 +242,7 @@ plain_run run = run_by run.file.now run.schedule.now (map (λ text. text.now) ru
 
 abbrev pub plain_request : Request (Bor Text) (Vec (Bor Text) Global) → Asked
 plain_request (Explore file never limit memory steps) = Explore file.now (map (λ text. text.now) never.items) limit memory steps
-plain_request (Ends file never process limit memory steps) = Ends file.now (map (λ text. text.now) never.items) process limit memory steps
+plain_request (Ends file never process condition limit memory steps) = Ends file.now (map (λ text. text.now) never.items) process condition limit memory steps
 plain_request (Check paths limit memory jobs) = Check (map (λ text. text.now) paths.items) limit memory jobs
 plain_request (Lasso file prefix cycle) = Lasso file.now prefix.now (option_map (λ text. text.now) cycle)
 plain_request (Hunt file never seed runs from steps is_uniform jobs) = Hunt file.now (map (λ text. text.now) never.items) seed runs from steps is_uniform jobs
@@ -244,17 +264,25 @@ rows = (codes "explore" ∷ codes "a" ∷ codes "--limit" ∷ codes "7" ∷ [], 
       codes "explore" ∷ codes "a" ∷ codes "--never=1 < n" ∷ codes "--merged" ∷ codes "--never" ∷ codes "0" ∷ [],
       Explore (codes "a") (codes "1 < n" ∷ codes "0" ∷ []) 4294967295 1000 Merged,
     )
-    ∷ (codes "explore" ∷ codes "a" ∷ codes "--ends" ∷ [], Ends (codes "a") [] None 4294967295 1000 MergedFirst)
-    ∷ (codes "explore" ∷ codes "a" ∷ codes "--ends" ∷ codes "2" ∷ [], Ends (codes "a") [] (Some 2) 4294967295 1000 MergedFirst)
-    ∷ (codes "explore" ∷ codes "--ends=5" ∷ codes "a" ∷ codes "--limit" ∷ codes "7" ∷ [], Ends (codes "a") [] (Some 5) 7 1000 MergedFirst)
-    ∷ (codes "explore" ∷ codes "--ends=5" ∷ codes "a" ∷ codes "--memory=1000000" ∷ [], Ends (codes "a") [] (Some 5) 4294967295 1000000 MergedFirst)
-    ∷ (codes "explore" ∷ codes "a" ∷ codes "--never" ∷ codes "n" ∷ codes "--ends" ∷ [], Ends (codes "a") (codes "n" ∷ []) None 4294967295 1000 MergedFirst)
-    ∷ (codes "explore" ∷ codes "a" ∷ codes "--merged" ∷ codes "--ends" ∷ [], Ends (codes "a") [] None 4294967295 1000 Merged)
-    ∷ (codes "explore" ∷ codes "--single" ∷ codes "--ends=1" ∷ codes "a" ∷ [], Ends (codes "a") [] (Some 1) 4294967295 1000 Single)
-    ∷ (codes "explore" ∷ codes "a" ∷ codes "--ends" ∷ codes "0" ∷ codes "--merged" ∷ [], Ends (codes "a") [] (Some 0) 4294967295 1000 Merged)
-    ∷ (codes "explore" ∷ codes "--schedule-only" ∷ codes "a" ∷ codes "--ends" ∷ [], Ends (codes "a") [] None 4294967295 1000 MergedFirst)
+    ∷ (codes "explore" ∷ codes "a" ∷ codes "--ends" ∷ [], Ends (codes "a") [] None Fair 4294967295 1000 MergedFirst)
+    ∷ (codes "explore" ∷ codes "a" ∷ codes "--ends" ∷ codes "2" ∷ [], Ends (codes "a") [] (Some 2) Fair 4294967295 1000 MergedFirst)
+    ∷ (codes "explore" ∷ codes "--ends=5" ∷ codes "a" ∷ codes "--limit" ∷ codes "7" ∷ [], Ends (codes "a") [] (Some 5) Fair 7 1000 MergedFirst)
+    ∷ (codes "explore" ∷ codes "--ends=5" ∷ codes "a" ∷ codes "--memory=1000000" ∷ [], Ends (codes "a") [] (Some 5) Fair 4294967295 1000000 MergedFirst)
+    ∷ (codes "explore" ∷ codes "a" ∷ codes "--never" ∷ codes "n" ∷ codes "--ends" ∷ [], Ends (codes "a") (codes "n" ∷ []) None Fair 4294967295 1000 MergedFirst)
+    ∷ (codes "explore" ∷ codes "a" ∷ codes "--merged" ∷ codes "--ends" ∷ [], Ends (codes "a") [] None Fair 4294967295 1000 Merged)
+    ∷ (codes "explore" ∷ codes "--single" ∷ codes "--ends=1" ∷ codes "a" ∷ [], Ends (codes "a") [] (Some 1) Fair 4294967295 1000 Single)
+    ∷ (codes "explore" ∷ codes "a" ∷ codes "--ends" ∷ codes "0" ∷ codes "--merged" ∷ [], Ends (codes "a") [] (Some 0) Fair 4294967295 1000 Merged)
+    ∷ (codes "explore" ∷ codes "--schedule-only" ∷ codes "a" ∷ codes "--ends" ∷ [], Ends (codes "a") [] None Fair 4294967295 1000 MergedFirst)
     ∷ (codes "explore" ∷ codes "--json" ∷ codes "a" ∷ [], Explore (codes "a") [] 4294967295 1000 MergedFirst)
-    ∷ (codes "explore" ∷ codes "a" ∷ codes "--ends" ∷ codes "3" ∷ codes "--json" ∷ [], Ends (codes "a") [] (Some 3) 4294967295 1000 MergedFirst)
+    ∷ (codes "explore" ∷ codes "a" ∷ codes "--ends" ∷ codes "3" ∷ codes "--json" ∷ [], Ends (codes "a") [] (Some 3) Fair 4294967295 1000 MergedFirst)
+    ∷ (codes "explore" ∷ codes "a" ∷ codes "--wait-free" ∷ [], Ends (codes "a") [] None WaitFree 4294967295 1000 MergedFirst)
+    ∷ (codes "explore" ∷ codes "--alone" ∷ codes "a" ∷ [], Ends (codes "a") [] None Alone 4294967295 1000 MergedFirst)
+    ∷ (codes "explore" ∷ codes "a" ∷ codes "--ends" ∷ codes "1" ∷ codes "--alone" ∷ [], Ends (codes "a") [] (Some 1) Alone 4294967295 1000 MergedFirst)
+    ∷ (codes "explore" ∷ codes "--wait-free" ∷ codes "a" ∷ codes "--single" ∷ codes "--ends" ∷ [], Ends (codes "a") [] None WaitFree 4294967295 1000 Single)
+    ∷ (
+      codes "explore" ∷ codes "a" ∷ codes "--never" ∷ codes "n" ∷ codes "--wait-free" ∷ codes "--limit=7" ∷ codes "--memory=20" ∷ [],
+      Ends (codes "a") (codes "n" ∷ []) None WaitFree 7 20 MergedFirst,
+    )
     ∷ (codes "check" ∷ codes "a" ∷ [], Check (codes "a" ∷ []) 4294967295 1000 64)
     ∷ (codes "check" ∷ codes "a" ∷ codes "--json" ∷ codes "b" ∷ [], Check (codes "a" ∷ codes "b" ∷ []) 4294967295 1000 64)
     ∷ (

@@ -1,6 +1,6 @@
 -- Which options do not go together: of `hunt` `--threads`, and each option of a hunt by random schedules; of `explore`
--- `--merged` and `--single`; of both `--json` and `--schedule-only`; of `trace`, `draw` and `page` `--never`, and `--code` or
--- `--lift`.
+-- `--merged` and `--single`, and `--wait-free` and `--alone`; of both commands `--json` and `--schedule-only`; of `trace`,
+-- `draw` and `page` `--never`, and `--code` or `--lift`.
 use Rattle.std.specs.Prelude.{Bool, true, false, List, ◌++◌, ◌&&◌, ◌||◌, Option, Some, None, codes, bytes_eq, map}
 use Rattle.std.specs.Prelude.{if◌then◌else◌, find, is_some, option_and_then, option_map}
 use Rattle.std.specs.Option.{option_map_or}
@@ -64,6 +64,12 @@ merged_and_single = of_file (codes "explore") (codes "--merged") (codes "--singl
 abbrev pub steps_conflict : List Row → Option Shown
 steps_conflict rows = if is_set (codes "merged") rows && is_set (codes "single") rows then Some merged_and_single else None
 
+abbrev pub wait_free_and_alone : Shown
+wait_free_and_alone = of_file (codes "explore") (codes "--wait-free") (codes "--alone")
+
+abbrev pub conditions_conflict : List Row → Option Shown
+conditions_conflict rows = if is_set (codes "wait-free") rows && is_set (codes "alone") rows then Some wait_free_and_alone else None
+
 -- the command of this name whose answer may have a schedule
 abbrev pub search_named : Text → Text
 search_named name = if bytes_eq name (codes "hunt") then codes "hunt" else codes "explore"
@@ -104,6 +110,7 @@ abbrev pub conflict_of : Text → List Row → Option Shown
 conflict_of name rows =
     if is_some (threads_conflict rows) then threads_conflict rows
     else if is_some (steps_conflict rows) then steps_conflict rows
+    else if is_some (conditions_conflict rows) then conditions_conflict rows
     else if is_some (json_conflict name rows) then json_conflict name rows
     else code_conflict name rows
 

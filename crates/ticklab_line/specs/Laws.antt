@@ -5,7 +5,7 @@ use Rattle.clap.specs.Kinds.{Kinds}
 use Rattle.clap.specs.declared.error.kind.ErrorKind.TheVariants as kind
 use Rattle.ticklab_line.specs.Commands.{Asked, request_in, rows}
 use Rattle.ticklab_line.specs.Lines.{command_in, faults, output_of}
-use Rattle.ticklab_line.specs.Conflicts.{Shown, beside_never, conflict_in, json_and_schedule, merged_and_single, of_file}
+use Rattle.ticklab_line.specs.Conflicts.{Shown, beside_never, conflict_in, json_and_schedule, merged_and_single, of_file, wait_free_and_alone}
 use Rattle.ticklab_line.specs.declared.asking.Output.{Output}
 use Rattle.ticklab_line.specs.declared.asking.Output.TheVariants as output
 use Rattle.ticklab_line.specs.declared.commands.Request.TheVariants.{Explore, Hunt, Runs}
@@ -55,6 +55,8 @@ pub record CommandsLaw : Type 0 where
   pub whole_of_a_check : output_asked (codes "check" ∷ codes "a" ∷ []) ≡ output.Text
   pub merged_single : IsTaken (codes "explore" ∷ codes "a" ∷ codes "--merged" ∷ codes "--single" ∷ []) (Some merged_and_single)
   pub single_merged : IsTaken (codes "explore" ∷ codes "--single" ∷ codes "a" ∷ codes "--ends" ∷ codes "--merged" ∷ []) (Some merged_and_single)
+  pub wait_free_alone : IsTaken (codes "explore" ∷ codes "a" ∷ codes "--wait-free" ∷ codes "--alone" ∷ []) (Some wait_free_and_alone)
+  pub alone_wait_free : IsTaken (codes "explore" ∷ codes "--alone" ∷ codes "a" ∷ codes "--ends" ∷ codes "--wait-free" ∷ []) (Some wait_free_and_alone)
   pub json_schedule : IsTaken (codes "explore" ∷ codes "a" ∷ codes "--json" ∷ codes "--schedule-only" ∷ []) (Some (json_and_schedule (codes "explore")))
   pub schedule_json : IsTaken (codes "explore" ∷ codes "--schedule-only" ∷ codes "a" ∷ codes "--ends" ∷ codes "--json" ∷ []) (Some (json_and_schedule (codes "explore")))
   pub all : map (λ row. read row.0) rows ≡ map (λ row. ([], None, Some row.1)) rows
@@ -113,6 +115,7 @@ pub record NoCommandsLaw : Type 0 where
   pub hunt_help : Tells (codes "hunt" ∷ codes "-h" ∷ []) (kind.DisplayHelp ∷ [])
   pub help_command : Tells (codes "help" ∷ []) (kind.DisplayHelp ∷ kind.InvalidSubcommand ∷ [])
   pub merged_true : Tells (codes "explore" ∷ codes "a" ∷ codes "--merged=true" ∷ []) (kind.TooManyValues ∷ [])
+  pub alone_true : Tells (codes "explore" ∷ codes "a" ∷ codes "--alone=true" ∷ []) (kind.TooManyValues ∷ [])
   pub version : Tells (codes "--version" ∷ []) (kind.DisplayVersion ∷ [])
   pub short_version : Tells (codes "-V" ∷ []) (kind.DisplayVersion ∷ [])
   pub version_first : Tells (codes "--version" ∷ codes "explore" ∷ codes "a" ∷ []) (kind.DisplayVersion ∷ [])

@@ -24,6 +24,7 @@ use explain::{EXPLAIN, explain_in};
 use explore::{EXPLORE, explore_in};
 use hunt::{HUNT, hunt_in};
 use labels::{LABELS, labels_in};
+use language_questions::Condition;
 use lasso::{LASSO, lasso_in};
 use runs::{DRAW, PAGE, TRACE, run_in};
 use std::alloc::{AllocError, Global};
@@ -96,11 +97,13 @@ pub enum Request<T, L> {
         memory: u32,
         steps: Steps,
     },
-    /// The same, and whether all processes can still end after each schedule, or one of them.
+    /// The same, and whether this process ends under a condition; where none is given, those that the file names, or
+    /// all.
     Ends {
         file: T,
         never: L,
         process: Option<u8>,
+        condition: Condition,
         limit: u32,
         memory: u32,
         steps: Steps,
@@ -184,7 +187,7 @@ Exit status: \
 3 a file could not be read, or the answer not be written; \
 4 memory or a thread was refused; \
 5 explore or hunt found a schedule under which a process traps or a #! never line breaks, or check what was not expected; \
-6 explore or check met its limit, or left a question open; \
+6 explore or check met its limit; \
 7 explore found a schedule after which what was asked for can't end or never does, or lasso says that it never does. \
 All but the answer is told on standard error.";
 

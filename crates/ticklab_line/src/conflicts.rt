@@ -3,7 +3,7 @@ ghost use Rattle.std.specs.Prelude.{◌≡◌, IfOk, map, option_map, string_byt
 ghost use Rattle.clap.specs.Matches.{found_of};
 ghost use Rattle.clap.specs.Walk.{rows_of};
 ghost use Rattle.clap.specs.Simple.{subcommand_rows_of};
-ghost use Rattle.ticklab_line.specs.Conflicts.{code_conflict, code_option, conflict_in as conflict_found, conflict_of, conflict_text, in_order, json_conflict, may_conflict, of_file, plan_option, run_named, search_named, shown, steps_conflict, threads_conflict, threads_lead};
+ghost use Rattle.ticklab_line.specs.Conflicts.{code_conflict, code_option, conditions_conflict, conflict_in as conflict_found, conflict_of, conflict_text, in_order, json_conflict, may_conflict, of_file, plan_option, run_named, search_named, shown, steps_conflict, threads_conflict, threads_lead};
 
 use crate::values::{is_set, text_in, texts_in};
 use clap::ArgMatches;
@@ -38,6 +38,9 @@ fn conflict_of(name: &str, given: &ArgMatches<'_>) -> Option<Conflict<'static>>
     if let Some(conflict) = steps_conflict(given) {
         return Some(conflict);
     }
+    if let Some(conflict) = conditions_conflict(given) {
+        return Some(conflict);
+    }
     if let Some(conflict) = json_conflict(name, given) {
         return Some(conflict);
     }
@@ -50,6 +53,16 @@ fn steps_conflict(given: &ArgMatches<'_>) -> Option<Conflict<'static>>
 {
     if is_set(given, "merged") && is_set(given, "single") {
         return Some(of_file("explore", "--merged", "--single"));
+    }
+    None
+}
+
+// `--wait-free` and `--alone` of `explore`.
+fn conditions_conflict(given: &ArgMatches<'_>) -> Option<Conflict<'static>>
+    ensures { option_map shown result ≡ conditions_conflict (rows_of (found_of given.now)) }
+{
+    if is_set(given, "wait-free") && is_set(given, "alone") {
+        return Some(of_file("explore", "--wait-free", "--alone"));
     }
     None
 }

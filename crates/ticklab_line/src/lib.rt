@@ -19,4 +19,5 @@ mod words;
 
 pub use asking::{Line, Output, asked};
 pub use commands::{AskedRun, Drawing, Paging, Request, Side, Steps};
+pub use language_questions::Condition;
 pub use laws::{law_commands, law_hunts, law_no_commands};

@@ -4,7 +4,7 @@ use Rattle.std.specs.List.{All}
 use Rattle.std.proofs.lemmas.List.Elements.{All-append}
 use Rattle.base.specs.Plain.{Name, WholeProgram}
 use Rattle.language_properties.specs.Properties.{Formula}
-use Rattle.language_questions.specs.declared.questions.Ends.{Ends}
+use Rattle.language_questions.specs.declared.questions.EndsLines.{EndsLines}
 use Rattle.ticklab_line.specs.declared.commands.Side.{Side}
 use Rattle.ticklab_files.specs.Asking.{AsksNever, TextPlace}
 use Rattle.ticklab_files.specs.Codes.{IsCodeless}
@@ -57,7 +57,7 @@ unexplored_unrun telling name texts input from given side report (no_file told) 
 unexplored_unrun telling name texts input from given side report (no_option is told) = option_refused is told
 
 -- and a `?` hands these on
-module _ {name : List ℕ} {texts : List (List ℕ)} {input : List ℕ} {a : WholeProgram Name} {ends : Option Ends} {lines : List Formula} {places : List TextPlace}
+module _ {name : List ℕ} {texts : List (List ℕ)} {input : List ℕ} {a : WholeProgram Name} {ends : EndsLines} {lines : List Formula} {places : List TextPlace}
     (known : IsAsked name texts input a ends lines places) (telling : Telling (List ℕ)) (from : List ℕ) (given : Texts) (side : Side) (n : ℕ) (count : n ≡ a.processes)
     {T : Type 0} (r : Result T NoAnswer) (stop : NoAnswer) (handed : IsErrAnd r (λ d. d ≡ stop)) where
   pub way_unrun : IfRefused stop (AreMisspelled n from given) → IfErr r (λ d. IfRefused d (IsUnrun telling name texts input from given side))

@@ -1,5 +1,5 @@
 -- What the answer of a hunt says, from what was found and what the answer shows of it.
-use Rattle.std.proofs.Common.{◌≡◌, ◌≤◌, ◌<◌, ℕ, List, length, Option, Some, None, IfSome, IfNone, subst}
+use Rattle.std.proofs.Common.{◌≡◌, ◌≤◌, ◌<◌, ℕ, List, length, Option, Some, None, IfSome, IfNone, subst, is_some}
 use Rattle.std.specs.List.{All}
 use Rattle.base.specs.Plain.{WholeProgram}
 use Rattle.tick_kinds.specs.Resolution.{resolved}
@@ -13,7 +13,7 @@ use Rattle.searches_explore.specs.declared.fault.Fault.TheVariants.{Trapped, Bro
 use Rattle.searches_hunt.specs.Never.{IsFirstFault, IsMinimalBroken, IsMinimalTrapped, NoRunFaults}
 use Rattle.searches_hunt.specs.declared.plan.Plan.{Plan}
 use Rattle.ticklab_files.specs.Asking.{AsksNever, TextPlace, places_by}
-use Rattle.ticklab_verdicts.specs.Ends.{asks_ends}
+use Rattle.ticklab_check.specs.Checking.{asked_for}
 use Rattle.ticklab_verdicts.specs.Hunting.{IsHunted, broken, nothing, trapped}
 use Rattle.ticklab_verdicts.specs.Shown.{ShowsEmptyHunt, ShowsHunt, ShowsHuntBroken}
 use Rattle.ticklab_line.specs.declared.asking.Output.{Output}
@@ -31,14 +31,14 @@ pub hunted_by : (name : List ℕ) (texts : List (List ℕ)) (output : Output) (p
     → IfSome h (λ f. IsPartOf (schedule_of f.1).items (random_schedule plan (resolved asks.file.program).processes f.0))
     → IfSome h (λ f. length (schedule_of f.1).items ≤ plan.steps)
     → IfNone h (NoRunFaults (resolved asks.file.program) asks.lines plan from)
-    → ShowsHunt (placed (sought_of name texts output input asks) places) plan from (asks_ends asks.file.asked.ends) h x → IsHunted name texts plan from output input x
+    → ShowsHunt (placed (sought_of name texts output input asks) places) plan from (is_some (asked_for asks.file.asked.ends)) h x → IsHunted name texts plan from output input x
 hunted_by name texts output plan from input asks places same many (Some (run, Trapped s)) x first traps breaks part short none shows =
     trapped asks run s.items first part short traps shows
 hunted_by name texts output plan from input asks places same many (Some (run, Broken s line v)) x first traps breaks part short none shows =
     broken asks run s.items line v first part short breaks
     (subst (λ (at : List TextPlace). ShowsHuntBroken plan from (placed (sought_of name texts output input asks) at) s.items line v x) same shows)
 hunted_by name texts output plan from input asks places same many None x first traps breaks part short none shows =
-    nothing asks none (subst (λ (n : ℕ). ShowsEmptyHunt output n plan from (asks_ends asks.file.asked.ends) x) many shows)
+    nothing asks none (subst (λ (n : ℕ). ShowsEmptyHunt output n plan from (is_some (asked_for asks.file.asked.ends)) x) many shows)
 
 -- what a schedule and a line that are found are at least
 module _ (a : WholeProgram ℕ) (lines : List Property) where

@@ -46,7 +46,7 @@ lasso_told input a asked prefix cycle None x run endless on stopped out onward l
 -- the texts were read for as many processes as the program of the file has, and this is found of them
 pub checked_by : (input first second : List ℕ) (file : IsProgramFile input) (n : ℕ) → n ≡ file.program.processes
     → (prefix cycle given_prefix given_cycle : List ℕ) → schedule_of n first ≡ Ok prefix → schedule_of n second ≡ Ok cycle
-    → given_prefix ≡ prefix → given_cycle ≡ cycle → (asked : MustStop) → asked ≡ asked_by file.asked.ends None → (x : Response)
+    → given_prefix ≡ prefix → given_cycle ≡ cycle → (asked : MustStop) → asked ≡ asked_by file.asked.ends.fair None → (x : Response)
     → IsLassoFound input file.program asked given_prefix given_cycle x → IsChecked input first second x
 checked_by input first second file n count prefix cycle given_prefix given_cycle spelled also same likewise asked is x found = record {
   is = file;
@@ -79,7 +79,7 @@ module _ (name input first_from first second_from second : List ℕ) (file : IsP
 -- The same of the way that the texts spell.
 pub way_checked_by : (input : List ℕ) (given : Texts) (file : IsProgramFile input) (n : ℕ) → n ≡ file.program.processes
     → (schedule lead_in cycle given_prefix given_cycle : List ℕ) → AreSpelled n given schedule lead_in cycle
-    → given_prefix ≡ schedule ++ lead_in → given_cycle ≡ cycle → (asked : MustStop) → asked ≡ asked_by file.asked.ends None → (x : Response)
+    → given_prefix ≡ schedule ++ lead_in → given_cycle ≡ cycle → (asked : MustStop) → asked ≡ asked_by file.asked.ends.fair None → (x : Response)
     → IsLassoFound input file.program asked given_prefix given_cycle x → IsWayChecked input given x
 way_checked_by input given file n count schedule lead_in cycle given_prefix given_cycle spelled same likewise asked is x found = record {
   is = file;

@@ -1,5 +1,5 @@
 -- What `hunt` answers without `--threads`.
-use Rattle.std.specs.Prelude.{◌≤◌, ℕ, Bool, true, false, List, length}
+use Rattle.std.specs.Prelude.{◌≤◌, ℕ, Bool, true, false, is_some, List, length}
 use Rattle.tick_kinds.specs.Resolution.{resolved}
 use Rattle.language_properties.specs.Values.{Valued}
 use Rattle.searches_hunt.specs.Draws.{random_schedule}
@@ -12,7 +12,7 @@ use Rattle.ticklab_files.specs.Asking.{AsksNever}
 use Rattle.ticklab_files.specs.Asking.{IsUnexplored}
 use Rattle.ticklab_files.specs.Reading.{AfterFile, ReadsOf, ReadsInputOf}
 use Rattle.ticklab_files.specs.Responses.{Refuses}
-use Rattle.ticklab_verdicts.specs.Ends.{asks_ends}
+use Rattle.ticklab_check.specs.Checking.{asked_for}
 use Rattle.ticklab_verdicts.specs.Shown.{ShowsEmptyHunt, ShowsHuntBroken, ShowsHuntTrap}
 use Rattle.ticklab_verdicts.specs.Sought.{sought_of}
 use Rattle.ticklab_line.specs.declared.asking.Output.{Output}
@@ -27,11 +27,11 @@ plan_of seed runs steps is_uniform = record { seed = seed; runs = runs; steps = 
 
 -- The random schedules of a plan from a run on, with these texts of a command line for what must never hold. The schedule
 -- that is shown is a part of the first one under which a process traps or a line breaks. Where there is none, the answer
--- says so of a line `#! ends` that names somebody: a hunt doesn't ask it. What isn't explored isn't hunted through, for the
+-- says so of lines `#! ends` that name somebody: a hunt doesn't ask it. What isn't explored isn't hunted through, for the
 -- same reason.
 pub data IsHunted (name : List ℕ) (texts : List (List ℕ)) (plan : Plan) (from : ℕ) (output : Output) (input : List ℕ) (response : Response) : Type 0 where
   nothing : (asks : AsksNever texts input) → NoRunFaults (resolved asks.file.program) asks.lines plan from
-      → ShowsEmptyHunt output (length asks.lines) plan from (asks_ends asks.file.asked.ends) response → IsHunted name texts plan from output input response
+      → ShowsEmptyHunt output (length asks.lines) plan from (is_some (asked_for asks.file.asked.ends)) response → IsHunted name texts plan from output input response
   trapped : (asks : AsksNever texts input) (run : ℕ) (schedule : List ℕ)
       → IsFirstFault (resolved asks.file.program) asks.lines plan from run
       → IsPartOf schedule (random_schedule plan (resolved asks.file.program).processes run) → length schedule ≤ plan.steps

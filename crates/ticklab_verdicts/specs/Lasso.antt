@@ -57,7 +57,7 @@ pub record IsChecked (input first second : List ℕ) (response : Response) : Typ
   pub cycle : List ℕ
   pub prefix_spelled : schedule_of is.program.processes first ≡ Ok prefix
   pub cycle_spelled : schedule_of is.program.processes second ≡ Ok cycle
-  pub found : IsLassoFound input is.program (asked_by is.asked.ends None) prefix cycle response
+  pub found : IsLassoFound input is.program (asked_by is.asked.ends.fair None) prefix cycle response
 
 -- The report of what isn't checked: of the file, the prefix or the cycle, in this order.
 pub data IsUnchecked (name input first_from first second_from second report : List ℕ) : Type 0 where
@@ -80,7 +80,7 @@ pub record IsWayChecked (input : List ℕ) (given : Texts) (response : Response)
   pub lead_in : List ℕ
   pub cycle : List ℕ
   pub spelled : AreSpelled is.program.processes given schedule lead_in cycle
-  pub found : IsLassoFound input is.program (asked_by is.asked.ends None) (schedule ++ lead_in) cycle response
+  pub found : IsLassoFound input is.program (asked_by is.asked.ends.fair None) (schedule ++ lead_in) cycle response
 
 pub data IsWayUnchecked (name input from : List ℕ) (given : Texts) (report : List ℕ) : Type 0 where
   of_file : IsFileRefused name input report → IsWayUnchecked name input from given report

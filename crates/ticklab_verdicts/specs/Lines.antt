@@ -1,5 +1,5 @@
 -- Lines of the answers.
-use Rattle.std.specs.Prelude.{◌++◌, ◌-◌, ◌==◌, if◌then◌else◌, min, ℕ, ◌+◌, Bool, true, false, not, List, [], ◌∷◌, codes, string_bytes}
+use Rattle.std.specs.Prelude.{◌++◌, ◌-◌, ◌==◌, ◌&&◌, if◌then◌else◌, min, ℕ, ◌+◌, Bool, true, false, not, List, [], ◌∷◌, codes, string_bytes}
 use Rattle.std.specs.Fmt.{decimal}
 use Rattle.std.specs.List.{list_any}
 use Rattle.base.specs.Lines.{line_end}
@@ -7,6 +7,7 @@ use Rattle.language_schedules.specs.Written.{schedule_text}
 use Rattle.searches_states.specs.declared.limits.Limits.{Limits}
 use Rattle.searches_states.specs.declared.must_stop.MustStop.{MustStop}
 use Rattle.searches_states.specs.declared.must_stop.MustStop.TheVariants.{All, Each}
+use Rattle.searches_explore.specs.declared.conditions.Conditions.{Conditions}
 use Rattle.searches_hunt.specs.declared.plan.Plan.{Plan}
 use Rattle.searches_hunt.specs.declared.tallying.counting.Counted.{Counted}
 
@@ -156,21 +157,68 @@ is_nobody (Each marks) = not (list_any (λ mark. mark) marks)
 -- The first lines. Before what is found of the ends stands what `explore` finds: nothing is wrong, and so many lines
 -- `#! never` don't break.
 abbrev pub quiet_text : ℕ → List ℕ
-quiet_text lines = safe_text lines ++ codes " under any schedule; "
+quiet_text lines = safe_text lines ++ codes " under any schedule"
+
+-- What is found of those who are asked under each condition, where somebody is.
 
 -- they can always end; and they do, where each process that runs steps again and again
-abbrev pub ends_text : MustStop → List ℕ
-ends_text asked =
-    if is_nobody asked then codes "no process is asked whether it can end"
-    else (asked_text asked ++ codes " can still end after every schedule, and will if each that runs steps again and again")
+abbrev pub fair_text : MustStop → List ℕ
+fair_text asked =
+    if is_nobody asked then []
+    else (codes "; " ++ asked_text asked ++ codes " can still end after every schedule, and will if each that runs steps again and again")
 
-abbrev pub ends_line : Bool → ℕ → MustStop → ℕ → List ℕ
+-- whether one of these is marked, and no other
+abbrev pub has_one : List Bool → Bool
+has_one [] = false
+has_one (true ∷ marks) = not (list_any (λ mark. mark) marks)
+has_one (false ∷ marks) = has_one marks
+
+-- whether one process is asked for, and no other
+abbrev pub is_one : MustStop → Bool
+is_one All = false
+is_one (Each marks) = has_one marks
+
+abbrev pub are_text : MustStop → List ℕ
+are_text asked = if is_one asked then codes " is " else codes " are "
+
+-- what they are, where somebody is asked
+abbrev pub named_text : MustStop → List ℕ → List ℕ
+named_text asked what = if is_nobody asked then [] else (codes "; " ++ asked_text asked ++ are_text asked ++ what)
+
+abbrev pub wait_free_text : MustStop → List ℕ
+wait_free_text asked = named_text asked (codes "wait-free: whoever of them steps again and again ends, though others stop anywhere")
+
+abbrev pub alone_text : MustStop → List ℕ
+alone_text asked = named_text asked (codes "obstruction-free: after any schedule each of them ends once it steps alone")
+
+-- nobody is asked under any
+abbrev pub is_empty : Conditions → Bool
+is_empty asked = is_nobody asked.fair && is_nobody asked.wait_free && is_nobody asked.alone
+
+abbrev pub ends_text : Conditions → List ℕ
+ends_text asked =
+    if is_empty asked then codes "; no process is asked whether it can end"
+    else (fair_text asked.fair ++ wait_free_text asked.wait_free ++ alone_text asked.alone)
+
+abbrev pub ends_line : Bool → ℕ → Conditions → ℕ → List ℕ
 ends_line is_merged lines asked states = quiet_text lines ++ ends_text asked ++ counted_text is_merged states
+
+-- this process steps again and again and doesn't end, where others stop
+abbrev pub not_wait_free_line : ℕ → Conditions → ℕ → List ℕ
+not_wait_free_line lines asked p =
+    quiet_text lines ++ fair_text asked.fair ++ codes "; process " ++ decimal p
+    ++ codes " is not wait-free: under this schedule it steps again and again and never ends:"
+
+-- this process doesn't end by its steps alone
+abbrev pub not_alone_line : ℕ → Conditions → ℕ → List ℕ
+not_alone_line lines asked p =
+    quiet_text lines ++ fair_text asked.fair ++ wait_free_text asked.wait_free ++ codes "; process " ++ decimal p
+    ++ codes " is not obstruction-free: after this schedule it steps alone and never ends:"
 
 -- they can always end, and under an endless schedule they don't
 abbrev pub endless_line : ℕ → MustStop → List ℕ
 endless_line lines asked =
-    quiet_text lines ++ asked_text asked
+    quiet_text lines ++ codes "; " ++ asked_text asked
     ++ codes " can still end after every schedule, but not under this one, in which each that runs steps again and again:"
 
 -- whether the schedule is a shortest
@@ -180,7 +228,7 @@ shorter_text is_merged = if is_merged then codes ":" else codes ", and after eac
 -- they can't end any more
 abbrev pub stuck_line : Bool → ℕ → MustStop → List ℕ
 stuck_line is_merged lines asked =
-    quiet_text lines ++ codes "after this schedule no further steps end " ++ asked_text asked ++ shorter_text is_merged
+    quiet_text lines ++ codes "; after this schedule no further steps end " ++ asked_text asked ++ shorter_text is_merged
 
 -- the steps that lead on to those that repeat for ever
 abbrev pub lead_in_line : List ℕ

@@ -7,6 +7,10 @@ use Rattle.language_properties.specs.Values.{Valued}
 use Rattle.searches_states.specs.declared.verdict.Verdict.{Verdict}
 use Rattle.searches_states.specs.declared.verdict.Verdict.TheVariants.{Found, Nowhere, Limit}
 use Rattle.searches_fairness.specs.declared.liveness.Liveness.{Liveness}
+use Rattle.searches_wait_free.specs.declared.answer.OwnSteps.{OwnSteps}
+use Rattle.searches_wait_free.specs.declared.answer.OwnSteps.TheVariants as O
+use Rattle.searches_explore.specs.declared.conditions.Conditions.{Conditions}
+use Rattle.searches_explore.specs.declared.conditions.Known.{Known}
 use Rattle.searches_fairness.specs.declared.liveness.Liveness.TheVariants as L
 use Rattle.searches_explore.specs.declared.fault.Fault.{Fault}
 use Rattle.searches_explore.specs.declared.fault.Fault.TheVariants.{Trapped, Broken}
@@ -23,7 +27,7 @@ use Rattle.ticklab_verdicts.specs.BySteps.{break_line_by, line_by}
 use Rattle.ticklab_line.specs.declared.asking.Output.{Output}
 use Rattle.ticklab_line.specs.declared.asking.Output.TheVariants.{Text, ScheduleAlone, Json}
 use Rattle.ticklab_runs.specs.Lines.{broken_text}
-use Rattle.ticklab_verdicts.specs.Lines.{endless_line, ends_line, limit_line, minimal_break_line, minimal_line, next_line, nothing_line, safe_line, schedule_alone, stuck_line, trap_lines}
+use Rattle.ticklab_verdicts.specs.Lines.{endless_line, ends_line, limit_line, minimal_break_line, minimal_line, next_line, not_alone_line, not_wait_free_line, nothing_line, safe_line, schedule_alone, stuck_line, trap_lines}
 use Rattle.ticklab_verdicts.specs.Loops.{IsLoopObject, IsLoopText}
 use Rattle.ticklab_files.specs.Responses.{Gives}
 use Rattle.ticklab_verdicts.specs.RunObjects.{IsBreakObject, IsRunObject}
@@ -143,18 +147,33 @@ ShowsStuck s is_merged asked = ShowsLoop (codes "stuck") (stuck_line is_merged (
 abbrev pub ShowsEndless : Sought → MustStop → List ℕ → List ℕ → Response → Type 0
 ShowsEndless s asked prefix cycle = ShowsLoop (codes "endless") (endless_line (length s.places) asked) s prefix [] cycle
 
-abbrev pub ShowsAllEnd : Sought → Bool → MustStop → ℕ → Response → Type 0
+abbrev pub ShowsNotWaitFree : Sought → Conditions → ℕ → List ℕ → List ℕ → Response → Type 0
+ShowsNotWaitFree s asked p prefix cycle = ShowsLoop (codes "not_wait_free") (not_wait_free_line (length s.places) asked p) s prefix [] cycle
+
+abbrev pub ShowsNotAlone : Sought → Conditions → ℕ → List ℕ → List ℕ → Response → Type 0
+ShowsNotAlone s asked p prefix cycle = ShowsLoop (codes "not_alone") (not_alone_line (length s.places) asked p) s prefix [] cycle
+
+abbrev pub ShowsAllEnd : Sought → Bool → Conditions → ℕ → Response → Type 0
 ShowsAllEnd s is_merged asked states =
     Gives 0 (IsStatesAnswer s.output (codes "ends") (ends_line is_merged (length s.places) asked states) is_merged states (length s.places) [])
 
--- where nothing is wrong in so many states
-abbrev pub ShowsKnown : Bool → MustStop → Sought → ℕ → Liveness → Response → Type 0
-ShowsKnown is_merged asked s states (L.Stuck schedule lead_in cycle) response =
-    ShowsStuck s is_merged asked schedule.items lead_in.items cycle.items response
-ShowsKnown is_merged asked s states (L.Endless prefix cycle) response = ShowsEndless s asked prefix.items cycle.items response
-ShowsKnown is_merged asked s states L.Ends response = ShowsAllEnd s is_merged asked states response
+-- where they end under fair schedules, and this is known of own steps: of wait-free processes, and of those that step alone
+abbrev pub ShowsOwn : Bool → Conditions → Sought → ℕ → OwnSteps → OwnSteps → Response → Type 0
+ShowsOwn is_merged asked s states (O.ForEver p prefix cycle) alone response = ShowsNotWaitFree s asked p prefix.items cycle.items response
+ShowsOwn is_merged asked s states O.Stop (O.ForEver p prefix cycle) response = ShowsNotAlone s asked p prefix.items cycle.items response
+ShowsOwn is_merged asked s states O.Stop O.Stop response = ShowsAllEnd s is_merged asked states response
 
-abbrev pub ShowsEnds : Bool → MustStop → Sought → Limits → Verdict Fault Liveness → Response → Type 0
+abbrev pub ShowsKnownBy : Bool → Conditions → Sought → ℕ → Liveness → OwnSteps → OwnSteps → Response → Type 0
+ShowsKnownBy is_merged asked s states (L.Stuck schedule lead_in cycle) wait_free alone response =
+    ShowsStuck s is_merged asked.fair schedule.items lead_in.items cycle.items response
+ShowsKnownBy is_merged asked s states (L.Endless prefix cycle) wait_free alone response = ShowsEndless s asked.fair prefix.items cycle.items response
+ShowsKnownBy is_merged asked s states L.Ends wait_free alone response = ShowsOwn is_merged asked s states wait_free alone response
+
+-- where nothing is wrong in so many states
+abbrev pub ShowsKnown : Bool → Conditions → Sought → ℕ → Known → Response → Type 0
+ShowsKnown is_merged asked s states known response = ShowsKnownBy is_merged asked s states known.fair known.wait_free known.alone response
+
+abbrev pub ShowsEnds : Bool → Conditions → Sought → Limits → Verdict Fault Known → Response → Type 0
 ShowsEnds is_merged asked s limits (Found states fault) response = SaysFault (line_by is_merged) (break_line_by is_merged) s fault response
 ShowsEnds is_merged asked s limits (Nowhere states known) response = ShowsKnown is_merged asked s states known response
 ShowsEnds is_merged asked s limits (Limit states) response = ShowsLimit s is_merged limits states response

@@ -14,7 +14,7 @@ ghost use Rattle.ticklab_verdicts.specs.Shown.{IsStatesAnswer, SaysBroken, SaysF
 ghost use Rattle.ticklab_verdicts.specs.Sought.{IsLawful, IsSound, sought_by};
 
 use crate::counts::push_many;
-use crate::ends::{asked_in, asks_ends, ends_found};
+use crate::ends::ends_found;
 use crate::extent::{SearchExtent, begins_merged, extent_of, kind_of};
 use crate::progress::Progress;
 use crate::search::{Answered, Search, Task};
@@ -23,6 +23,7 @@ use crate::trapping::{broken_shown, trap_shown};
 use base::{Trap, push_number};
 use searches_explore::{Fault, Limits, Verdict, explore};
 use std::alloc::{AllocError, Global};
+use ticklab_check::asked_for;
 use ticklab_files::{
     DONE, Files, LIMIT, LabFault, Response, answer, asked_program, bytes_of, settled,
 };
@@ -41,8 +42,8 @@ const SHORTEST_BREAK: &str =
 const SOME_BREAK: &str = "a #! never line breaks under this schedule:";
 
 /// Whether a process of the program traps under some schedule, or a line `#! never` of the file breaks or one of
-/// these texts that are the same, as far as `limits` let a search go. Where a line `#! ends` of the file
-/// names somebody, what comes of that is asked too. The progress is told of each search. By merged steps the private
+/// these texts that are the same, as far as `limits` let a search go. Where the lines `#! ends` of the file
+/// name somebody, what comes of that is asked too. The progress is told of each search. By merged steps the private
 /// ones of a process go with the step before them: there are fewer states, and a schedule that is found need not be a
 /// shortest one.
 pub fn explored<'a, F: Files, W: Progress>(
@@ -71,19 +72,19 @@ pub fn explored<'a, F: Files, W: Progress>(
         lines: &asked.lines,
         output,
     };
-    let task = Task {
-        search,
-        limits,
-        asked: asked_in(asked.ends),
-    };
-    if asks_ends(asked.ends) {
-        let response = ends_found(&task, steps, progress)?;
-        progress.end();
-        return Ok(response);
+    let task = Task { search, limits };
+    match asked_for(asked.ends) {
+        Some(conditions) => {
+            let response = ends_found(&task, conditions, steps, progress)?;
+            progress.end();
+            Ok(response)
+        }
+        None => {
+            let response = found(&task, steps, progress)?;
+            progress.end();
+            Ok(response)
+        }
     }
-    let response = found(&task, steps, progress)?;
-    progress.end();
-    Ok(response)
 }
 
 // What is found of the program by steps of one kind, or by merged ones first, and by single ones where these find a
@@ -92,7 +93,7 @@ fn found<W: Progress>(task: &Task<'_, '_>, steps: Steps, progress: &mut W) -> An
     requires sound { IsSound task.now.search }
     ensures { IfOk result (λ response. IsHeard (hearing W.begins W.finds W.hears) progress.old progress.new (IsFound (sought_by task.now.search) task.now.limits steps response)) }
 {
-    let Task { search, limits, .. } = *task;
+    let Task { search, limits } = *task;
     let program = &search.spelled.program;
     let properties = search.lines.properties.as_slice();
     let is_merged = begins_merged(steps);

@@ -12,7 +12,6 @@ ghost use Rattle.ticklab_verdicts.specs.Sought.{IsLawful, IsSound, sought_by};
 ghost use Rattle.ticklab_files.specs.Stops.{IfRefused};
 
 use crate::counts::push_many;
-use crate::ends::asks_ends;
 use crate::exploring::push_safe;
 use crate::search::{Answered, Search};
 use crate::trapping::{broken_shown, trap_shown};
@@ -20,6 +19,7 @@ use base::push_number;
 use searches_explore::Fault;
 use searches_hunt::{Mode, Plan, Trials, hunt};
 use std::alloc::{AllocError, Global};
+use ticklab_check::asked_for;
 use ticklab_files::{
     DONE, Files, LabFault, NoAnswer, Response, answer, asked_program, bytes_of, settled,
 };
@@ -101,7 +101,8 @@ fn random_schedules<T: Trials>(
         lines,
         output,
     };
-    Ok(shown(&search, plan, from, asks_ends(asked.ends), &hunted)?)
+    let ends_unasked = asked_for(asked.ends).is_some();
+    Ok(shown(&search, plan, from, ends_unasked, &hunted)?)
 }
 
 // The answer that tells what the hunt came to.

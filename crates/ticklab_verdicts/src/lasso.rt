@@ -75,7 +75,7 @@ fn way_checked(
     let (spelled, questions) = spelled_program_of(alloc, name, input)?;
     let way = way_of(alloc, from, given, spelled.program.processes())?;
     let (prefix, cycle) = way.divided()?;
-    let asked = asked_in(questions.ends);
+    let asked = asked_in(questions.ends.fair);
     let (prefix, cycle) = (prefix.as_slice(), cycle.as_slice());
     Ok(lasso_found(alloc, &spelled, input, asked, prefix, cycle)?)
 }
@@ -125,7 +125,7 @@ fn checked(
     let cycle = schedule_of(alloc, second_from, second, n)?;
     let prefix = prefix.as_slice();
     let cycle = cycle.as_slice();
-    let asked = asked_in(questions.ends);
+    let asked = asked_in(questions.ends.fair);
     Ok(lasso_found(alloc, &spelled, input, asked, prefix, cycle)?)
 }
 

@@ -1,5 +1,5 @@
 use base::NoMemory;
-use searches_explore::{Limits, MustStop};
+use searches_explore::Limits;
 use std::alloc::Global;
 use ticketc_refusals::SpelledProgram;
 use ticklab_files::{NeverLines, Response};
@@ -24,8 +24,6 @@ pub struct Task<'a, 'b> {
     pub search: Search<'a, 'b>,
     /// How far a search goes.
     pub limits: Limits,
-    /// Who is asked whether they end.
-    pub asked: MustStop,
 }
 
 /// An answer, where memory suffices.

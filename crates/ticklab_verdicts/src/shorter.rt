@@ -58,7 +58,7 @@ fn shorter_sought<W: Progress>(
     requires fault { is_fault (lines_of task.now.search.lines.now.properties.items) (source (resolved task.now.search.spelled.now.program) schedule.items) ≡ true }
     ensures { IfOk result (λ response. IsHeard (hearing W.begins W.finds W.hears) progress.old progress.new (TellsShorter (sought_by task.now.search) task.now.limits merged response)) }
 {
-    let Task { search, limits, .. } = *task;
+    let Task { search, limits } = *task;
     let alloc = search.alloc;
     let program = &search.spelled.program;
     let properties = search.lines.properties.as_slice();

@@ -21,6 +21,8 @@ complete -c ticklab -n 'contains -- explore (commandline -opc)[2]' -l never -x -
 complete -c ticklab -n 'contains -- explore (commandline -opc)[2]' -l schedule-only -d 'Prints only the schedule, or nothing if there is none'
 complete -c ticklab -n 'contains -- explore (commandline -opc)[2]' -l json -d 'Prints the answer as JSON'
 complete -c ticklab -n 'contains -- explore (commandline -opc)[2]' -l ends -x -d 'Also asks whether all processes, or process P, can still end after every schedule'
+complete -c ticklab -n 'contains -- explore (commandline -opc)[2]' -l wait-free -d 'Asks whether they end by their own steps, though others stop anywhere'
+complete -c ticklab -n 'contains -- explore (commandline -opc)[2]' -l alone -d 'Asks whether each ends once it steps alone, from wherever; not with --wait-free'
 complete -c ticklab -n 'contains -- explore (commandline -opc)[2]' -s h -l help -d 'Print help'
 complete -c ticklab -n 'contains -- explore (commandline -opc)[2]' -F
 complete -c ticklab -n 'contains -- check (commandline -opc)[2]' -l limit -x -d 'Gives up if there are more states than this [default: 4294967295]'

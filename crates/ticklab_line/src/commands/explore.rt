@@ -2,7 +2,7 @@
 ghost use Rattle.std.specs.Prelude.{◌≡◌, IfOk, map, option_map};
 ghost use Rattle.clap.specs.Matches.{found_of};
 ghost use Rattle.clap.specs.Walk.{rows_of};
-ghost use Rattle.ticklab_line.specs.Commands.{ends_in, ends_of, explore_in, plain_request, schedules_of, steps_in};
+ghost use Rattle.ticklab_line.specs.Commands.{condition_in, ends_in, ends_of, explore_in, plain_request, schedules_of, steps_in, without_ends};
 
 use crate::commands::{Lent, Request, Steps, limit_in, memory_in};
 use crate::described::Description;
@@ -11,6 +11,7 @@ use crate::values::{byte, is_set, list_in, text_in, texts_in};
 use crate::words::{JSON, LIMIT, MEMORY, NEVER, PROGRAM, SCHEDULE_ONLY};
 use clap::ArgMatches;
 use clap::builder::ValueParser;
+use language_questions::Condition;
 use std::alloc::{AllocError, Global};
 
 /// `ticklab explore`.
@@ -39,6 +40,14 @@ pub const EXPLORE: Description = Description {
             ValueParser::Signed(0, 5),
             "Also asks whether all processes, or process P, can still end after every schedule",
         ),
+        Flag(
+            "wait-free",
+            "Asks whether they end by their own steps, though others stop anywhere",
+        ),
+        Flag(
+            "alone",
+            "Asks whether each ends once it steps alone, from wherever; not with --wait-free",
+        ),
     ],
 };
 
@@ -49,7 +58,17 @@ pub fn explore_in<'a>(alloc: Global, given: &ArgMatches<'a>) -> Result<Option<Le
     let never = list_in(alloc, given, "never")?;
     match texts_in(given, "ends") {
         Some(texts) => Ok(ends_in(given, never, texts)),
-        None => Ok(schedules_of(given, never)),
+        None => Ok(without_ends(given, never)),
+    }
+}
+
+// All schedules; and who ends under a condition, where one is asked for.
+fn without_ends<'a>(given: &ArgMatches<'a>, never: Vec<&'a str>) -> Option<Lent<'a>>
+    ensures { option_map plain_request result ≡ without_ends (map (λ text. text.now) never.entry.items) (rows_of (found_of given.now)) }
+{
+    match condition_in(given) {
+        Condition::Fair => schedules_of(given, never),
+        Condition::WaitFree | Condition::Alone => ends_of(given, never, None),
     }
 }
 
@@ -78,6 +97,19 @@ fn steps_in(given: &ArgMatches<'_>) -> Steps
     Steps::MergedFirst
 }
 
+// The condition under which it is asked who ends.
+fn condition_in(given: &ArgMatches<'_>) -> Condition
+    ensures { result ≡ condition_in (rows_of (found_of given.now)) }
+{
+    if is_set(given, "wait-free") {
+        return Condition::WaitFree;
+    }
+    if is_set(given, "alone") {
+        return Condition::Alone;
+    }
+    Condition::Fair
+}
+
 fn ends_in<'a>(given: &ArgMatches<'a>, never: Vec<&'a str>, texts: &[&'a str]) -> Option<Lent<'a>>
     ensures { option_map plain_request result ≡ ends_in (map (λ text. text.now) never.entry.items) (rows_of (found_of given.now)) (map (λ text. text.now) texts.now) }
 {
@@ -91,11 +123,13 @@ fn ends_in<'a>(given: &ArgMatches<'a>, never: Vec<&'a str>, texts: &[&'a str]) -
 fn ends_of<'a>(given: &ArgMatches<'a>, never: Vec<&'a str>, process: Option<u8>) -> Option<Lent<'a>>
     ensures { option_map plain_request result ≡ ends_of (map (λ text. text.now) never.entry.items) process (rows_of (found_of given.now)) }
 {
+    let condition = condition_in(given);
     let steps = steps_in(given);
     Some(Request::Ends {
         file: text_in(given, "file")?,
         never,
         process,
+        condition,
         limit: limit_in(given)?,
         memory: memory_in(given)?,
         steps,

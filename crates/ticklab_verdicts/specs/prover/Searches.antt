@@ -5,11 +5,14 @@ use Rattle.base.specs.Plain.{WholeProgram}
 use Rattle.language_properties.specs.declared.property.Property.{Property}
 use Rattle.searches_states.specs.Watching.{Told}
 use Rattle.searches_states.specs.declared.limits.Limits.{Limits}
-use Rattle.searches_states.specs.declared.must_stop.MustStop.{MustStop}
 use Rattle.searches_states.specs.declared.verdict.Verdict.{Verdict}
 use Rattle.searches_fairness.specs.declared.liveness.Liveness.{Liveness}
 use Rattle.searches_fairness.specs.declared.liveness.Liveness.TheVariants as L
-use Rattle.searches_explore.specs.BySteps.{KnowsEndsAs}
+use Rattle.searches_wait_free.specs.declared.answer.OwnSteps.{OwnSteps}
+use Rattle.searches_wait_free.specs.declared.answer.OwnSteps.TheVariants as O
+use Rattle.searches_explore.specs.BySteps.{KnowsAlone, KnowsFairAs, KnowsWaitFree}
+use Rattle.searches_explore.specs.declared.conditions.Conditions.{Conditions}
+use Rattle.searches_explore.specs.declared.conditions.Known.{Known}
 use Rattle.searches_explore.specs.Lines.{lines_of}
 use Rattle.searches_explore.specs.Never.{AreToldFor, IfBroken, IfFault, IfFaultIn, IfKnown, IfLimit, IfSafe, IfTrapped}
 use Rattle.searches_explore.specs.declared.fault.Fault.{Fault}
@@ -42,16 +45,27 @@ module _ {E : Type 0} (m : Bool) (a : WholeProgram ℕ) (lines : List Property) 
     pub watched : IsHeard hears before after (AreHeardFor e)
 
 -- What holds of what is known, where these processes have to end.
-abbrev pub AreEndsKnownBy : Bool → WholeProgram ℕ → MustStop → Liveness → Type 0
-AreEndsKnownBy m a asked = KnowsEndsAs a asked (StuckBy m a asked)
+pub record AreEndsKnownBy (m : Bool) (a : WholeProgram ℕ) (asked : Conditions) (known : Known) : Type 0 where
+  pub fair : KnowsFairAs a asked.fair (StuckBy m a asked.fair) known.fair
+  pub wait_free : KnowsWaitFree a asked.wait_free known.wait_free
+  pub alone : KnowsAlone a asked.alone known.alone
 
-pub record AreEndsSearchedBy (m : Bool) (a : WholeProgram ℕ) (lines : List Property) (asked : MustStop) (limits : Limits) {W : Type 0} (hears : HearsOf W)
-    (before after : W) (e : Verdict Fault Liveness) : Type 0 where
+pub record AreEndsSearchedBy (m : Bool) (a : WholeProgram ℕ) (lines : List Property) (asked : Conditions) (limits : Limits) {W : Type 0} (hears : HearsOf W)
+    (before after : W) (e : Verdict Fault Known) : Type 0 where
   pub searched : IsSearchedBy m a lines limits hears before after e
   pub known : IfKnown e (AreEndsKnownBy m a asked)
 
 -- its schedules are of the program
-abbrev pub IsShowable : Search → Liveness → Type 0
-IsShowable s (L.Stuck schedule lead_in cycle) = IsLawful s schedule.items × IsLawful s lead_in.items × IsLawful s cycle.items
-IsShowable s (L.Endless prefix cycle) = IsLawful s prefix.items × IsLawful s cycle.items
-IsShowable s l = ⊤
+abbrev pub IsFairShowable : Search → Liveness → Type 0
+IsFairShowable s (L.Stuck schedule lead_in cycle) = IsLawful s schedule.items × IsLawful s lead_in.items × IsLawful s cycle.items
+IsFairShowable s (L.Endless prefix cycle) = IsLawful s prefix.items × IsLawful s cycle.items
+IsFairShowable s l = ⊤
+
+abbrev pub IsOwnShowable : Search → OwnSteps → Type 0
+IsOwnShowable s (O.ForEver p prefix cycle) = IsLawful s prefix.items × IsLawful s cycle.items
+IsOwnShowable s O.Stop = ⊤
+
+pub record IsShowable (s : Search) (known : Known) : Type 0 where
+  pub fair : IsFairShowable s known.fair
+  pub wait_free : IsOwnShowable s known.wait_free
+  pub alone : IsOwnShowable s known.alone

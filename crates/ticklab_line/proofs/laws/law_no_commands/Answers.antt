@@ -13,6 +13,7 @@ returns c = record {
   hunt_help = refl;
   help_command = refl;
   merged_true = refl;
+  alone_true = refl;
   version = refl;
   short_version = refl;
   version_first = refl;

@@ -14,9 +14,9 @@ returns g c =
     let a = resolved task.search.spelled.now.program in
     let m = c.args.is_merged in
     let given = c.as_slice-properties.result.now in
-    let told = subst (λ (k : StepKind). TellsEndsBy a (lines_of given) task.asked task.limits g.W.Watch.hears c.begin.new.self c.explore_ends.new.watch k e)
+    let told = subst (λ (k : StepKind). TellsEndsBy a (lines_of given) c.args.asked task.limits g.W.Watch.hears c.begin.new.self c.explore_ends.new.watch k e)
     c.kind_of-kind.ensures c.in_ok-explored.ensures in
     record {
       searched = told_so g.W.Progress.begins g.W.Progress.finds g.W.Watch.hears _ _ _ a given _ c.as_slice-properties.ensures.value task.limits e m c.begin.ensures told.0;
-      known = known_if m a task.asked e told.1;
+      known = known_if m a c.args.asked e told.1;
     }

@@ -13,10 +13,10 @@ shown-requires g c =
       sound = c.requires.sound;
       schedule = is.searched.known.lawful;
       line = within_places q c.requires.sound e is.searched.known.within;
-      shown = showable_if q c.args.task.now.asked c.args.is_merged e is.known;
+      shown = showable_if q c.args.asked c.args.is_merged e is.known;
     }
 
 pub returns : goal.returns
 returns g c =
-    then_ok c.shown.result (λ x shows. ends_found_as c.args.task.now.search c.args.task.now.limits c.args.task.now.asked (hearing g.W.Progress.begins g.W.Progress.finds g.W.Watch.hears) _ _
+    then_ok c.shown.result (λ x shows. ends_found_as c.args.task.now.search c.args.task.now.limits c.args.asked (hearing g.W.Progress.begins g.W.Progress.finds g.W.Watch.hears) _ _
     c.args.is_merged c.in_ok-explored.explored x c.in_ok-explored.ensures shows) c.shown.ensures

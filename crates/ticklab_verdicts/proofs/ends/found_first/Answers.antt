@@ -26,30 +26,30 @@ pub returns-in-Found : goal.returns-in-Found
 returns-in-Found g c =
     let q = c.args.task.now.search in
     let H = hearing g.W.Progress.begins g.W.Progress.finds g.W.Watch.hears in
-    then_ok c.shorter_found.result (λ x told. fault_first q c.args.task.now.limits c.args.task.now.asked H _ _ _ c.in-Found.states c.in-Found.found x
-    (ends_searched_is q c.args.task.now.limits c.args.task.now.asked H _ _ true _ (Found c.in-Found.states c.in-Found.found) c.in-Found.is c.in_ok-explored.ensures) told)
+    then_ok c.shorter_found.result (λ x told. fault_first q c.args.task.now.limits c.args.asked H _ _ _ c.in-Found.states c.in-Found.found x
+    (ends_searched_is q c.args.task.now.limits c.args.asked H _ _ true _ (Found c.in-Found.states c.in-Found.found) c.in-Found.is c.in_ok-explored.ensures) told)
     c.shorter_found.ensures
 
 pub known_shown-requires-clause-shown : goal.known_shown-requires-clause-shown
 known_shown-requires-clause-shown g c =
     let q = c.args.task.now.search in
     let H = hearing g.W.Progress.begins g.W.Progress.finds g.W.Watch.hears in
-    showable q c.args.task.now.asked true c.in-Nowhere.known
-    (ends_searched_is q c.args.task.now.limits c.args.task.now.asked H _ _ true _ (Nowhere c.in-Nowhere.states c.in-Nowhere.known) c.in-Nowhere.is
+    showable q c.args.asked true c.in-Nowhere.known
+    (ends_searched_is q c.args.task.now.limits c.args.asked H _ _ true _ (Nowhere c.in-Nowhere.states c.in-Nowhere.known) c.in-Nowhere.is
     c.in_ok-explored.ensures).known
 
 pub returns-in-Nowhere : goal.returns-in-Nowhere
 returns-in-Nowhere g c =
     let q = c.args.task.now.search in
     let H = hearing g.W.Progress.begins g.W.Progress.finds g.W.Watch.hears in
-    then_ok c.known_shown.result (λ x shows. quiet_first q c.args.task.now.limits c.args.task.now.asked H _ _ c.in-Nowhere.states c.in-Nowhere.known x
-    (ends_searched_is q c.args.task.now.limits c.args.task.now.asked H _ _ true _ (Nowhere c.in-Nowhere.states c.in-Nowhere.known) c.in-Nowhere.is
+    then_ok c.known_shown.result (λ x shows. quiet_first q c.args.task.now.limits c.args.asked H _ _ c.in-Nowhere.states c.in-Nowhere.known x
+    (ends_searched_is q c.args.task.now.limits c.args.asked H _ _ true _ (Nowhere c.in-Nowhere.states c.in-Nowhere.known) c.in-Nowhere.is
     c.in_ok-explored.ensures) shows) c.known_shown.ensures
 
 pub returns-in-Limit : goal.returns-in-Limit
 returns-in-Limit g c =
     let q = c.args.task.now.search in
     let H = hearing g.W.Progress.begins g.W.Progress.finds g.W.Watch.hears in
-    then_ok c.limit_shown.result (λ x shows. unknown_first q c.args.task.now.limits c.args.task.now.asked H _ _ c.in-Limit.states x
-    (ends_searched_is q c.args.task.now.limits c.args.task.now.asked H _ _ true _ (Limit c.in-Limit.states) c.in-Limit.is c.in_ok-explored.ensures) shows)
+    then_ok c.limit_shown.result (λ x shows. unknown_first q c.args.task.now.limits c.args.asked H _ _ c.in-Limit.states x
+    (ends_searched_is q c.args.task.now.limits c.args.asked H _ _ true _ (Limit c.in-Limit.states) c.in-Limit.is c.in_ok-explored.ensures) shows)
     c.limit_shown.ensures

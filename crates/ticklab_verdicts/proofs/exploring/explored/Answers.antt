@@ -1,8 +1,7 @@
-use Rattle.std.proofs.Common.{◌∙◌, ℕ, List, [], Err, None, Option, ap, map, refl, subst, sym}
-use Rattle.language_questions.specs.declared.questions.Ends.{Ends}
+use Rattle.std.proofs.Common.{◌∙◌, ℕ, List, [], Err, ap, map, refl, subst, sym}
 use Rattle.searches_explore.specs.Lines.{lines_of}
 use Rattle.ticklab_files.specs.Asking.{TextPlace, place_of, places_by, texts_of}
-use Rattle.ticklab_verdicts.specs.Ends.{asked_by, asks_ends}
+use Rattle.ticklab_check.specs.Checking.{asked_for}
 use Rattle.ticklab_verdicts.specs.Exploring.{IsExplored, ends_too, explored, unexplored}
 use Rattle.ticklab_verdicts.specs.Found.{IsFound}
 use Rattle.ticklab_verdicts.specs.Hearing.{IsHeard, hearing}
@@ -26,24 +25,23 @@ returns-in-Err-clause-ok g c =
           (λ y refused. record { heard = []; is = refl; lawful = unexplored refused refl }) tt c.in-Err.ensures.refused c.in_ok-settled-in-Err.ensures),
     )
 
-pub returns-then-asks_ends-clause-ok : goal.returns-then-asks_ends-clause-ok
-returns-then-asks_ends-clause-ok g c =
+pub returns-in-Some-clause-ok : goal.returns-in-Some-clause-ok
+returns-in-Some-clause-ok g c =
     let known = c.in-Ok.ensures.asks in
     let held = c.in-Ok.asked.lines in
     let texts = texts_of c.args.never.now in
     let input = c.as_slice-bytes.result.now in
-    let x = c.in_ok-response.response in (
+    let x = c.in_ok-response-in-Some.response in (
       c.in_ok-input.input.items,
       c.in_ok-input.ensures.ok,
       subst (λ (input : List ℕ). IsHeard (hearing g.W.Progress.begins g.W.Progress.finds g.W.Watch.hears) c.args.progress.now c.ends_found.new.progress
           (IsExplored c.args.steps c.args.file.now texts c.args.limits c.args.output input x)) c.as_slice-bytes.ensures.value
           (ends_moved (hearing g.W.Progress.begins g.W.Progress.finds g.W.Watch.hears) _ _ c.args.steps
           (record { input = input; program = c.in-Ok.asked.spelled.program; lines = lines_of held.properties.items; places = []; output = c.args.output })
-          (map place_of held.places.items) (places_by c.args.file.now input known.asked texts) c.asked_in.result
-          (asked_by known.asked.ends None) c.args.limits x (IsExplored c.args.steps c.args.file.now texts c.args.limits c.args.output input x)
-          known.stand (c.asked_in.ensures ∙ ap (λ (ends : Option Ends). asked_by ends None) (sym known.who))
-          (λ heard found. ends_too (asks_of known) (ap asks_ends known.who ∙ sym c.asks_ends.ensures ∙ c.if-asks_ends.true) found)
-          c.in_ok-response.ensures),
+          (map place_of held.places.items) (places_by c.args.file.now input known.asked texts) c.in-Some.conditions c.in-Some.conditions c.args.limits x
+          (IsExplored c.args.steps c.args.file.now texts c.args.limits c.args.output input x) known.stand refl
+          (λ heard found. ends_too (asks_of known) c.in-Some.conditions (ap asked_for known.who ∙ sym c.asked_for.ensures ∙ c.in-Some.is) found)
+          c.in_ok-response-in-Some.ensures),
     )
 
 pub returns-clause-ok : goal.returns-clause-ok
@@ -52,14 +50,14 @@ returns-clause-ok g c =
     let held = c.in-Ok.asked.lines in
     let texts = texts_of c.args.never.now in
     let input = c.as_slice-bytes.result.now in
-    let x = c.in_ok-response-2.response in (
+    let x = c.in_ok-response-in-None.response in (
       c.in_ok-input.input.items,
       c.in_ok-input.ensures.ok,
       subst (λ (input : List ℕ). IsHeard (hearing g.W.Progress.begins g.W.Progress.finds g.W.Watch.hears) c.args.progress.now c.found.new.progress
           (IsExplored c.args.steps c.args.file.now texts c.args.limits c.args.output input x)) c.as_slice-bytes.ensures.value
           (heard_as (hearing g.W.Progress.begins g.W.Progress.finds g.W.Watch.hears) _ _ (λ heard found. explored (asks_of known)
-          (ap asks_ends known.who ∙ sym c.asks_ends.ensures ∙ c.if-asks_ends.false)
+          (ap asked_for known.who ∙ sym c.asked_for.ensures ∙ c.in-None.is)
           (subst (λ (at : List TextPlace). IsFound (record { input = input; program = c.in-Ok.asked.spelled.program; lines = lines_of held.properties.items; places = at; output = c.args.output })
           c.args.limits c.args.steps x heard)
-          known.stand found)) c.in_ok-response-2.ensures),
+          known.stand found)) c.in_ok-response-in-None.ensures),
     )

@@ -1,11 +1,11 @@
-use Rattle.std.proofs.Common.{◌∙◌, ◌<◌, Bool, List, ap, map, IfSome, IfNone, subst, sym}
+use Rattle.std.proofs.Common.{◌∙◌, ◌<◌, Bool, List, ap, is_some, map, IfSome, IfNone, subst, sym}
 use Rattle.language_properties.specs.declared.property.Property.{Property}
 use Rattle.tick_kinds.specs.Resolution.{resolved}
 use Rattle.searches_explore.specs.Lines.{lines_of}
 use Rattle.searches_explore.specs.Never.{IfBreaks, IfTraps}
 use Rattle.searches_hunt.specs.Never.{IsFirstFault, IsMinimalBroken, IsMinimalTrapped, NoRunFaults}
 use Rattle.ticklab_files.specs.Asking.{place_of, texts_of}
-use Rattle.ticklab_verdicts.specs.Ends.{asks_ends}
+use Rattle.ticklab_check.specs.Checking.{asked_for}
 use Rattle.ticklab_verdicts.specs.Shown.{ShowsHunt}
 use Rattle.ticklab_verdicts.specs.Sought.{sought_of}
 use Rattle.ticklab_verdicts.proofs.HuntSearched.{hunted_by, hunted_lawful, hunted_within}
@@ -43,4 +43,4 @@ returns-clause-ok g c =
     (subst (λ (lines : List Property). IfSome h (λ f. IfBreaks f.1 (IsMinimalBroken (resolved p) (lines_of lines)))) value e.broken)
     e.part e.short
     (subst (λ (lines : List Property). IfNone h (NoRunFaults (resolved p) (lines_of lines) plan from)) value e.nothing)
-    (subst (λ (unasked : Bool). ShowsHunt found plan from unasked h c.in_ok-shown.field-0) (c.asks_ends.ensures ∙ ap asks_ends (sym known.who)) c.in_ok-shown.ensures)
+    (subst (λ (unasked : Bool). ShowsHunt found plan from unasked h c.in_ok-shown.field-0) (c.is_some-ends_unasked.ensures ∙ ap is_some c.asked_for.ensures ∙ ap (λ lines. is_some (asked_for lines)) (sym known.who)) c.in_ok-shown.ensures)
