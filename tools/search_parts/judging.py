@@ -1,8 +1,13 @@
 """Whether `ticklab explore --json` answers what the second search finds (docs/FORMATS.md, Answers as JSON)."""
+import collections
+import functools
 import json
+import re
 
 from . import machine
+from .questions import asked_for, by_lines, by_options
 from .searching import Search
+from .telling import UNMET, first_line
 
 SAFE, TRAPPED, MORE, STUCK = 0, 5, 6, 7
 # By which steps is searched, and what is said of a schedule that is found.
@@ -11,7 +16,7 @@ SAID = {
     "merged": "a process traps under this schedule:",
 }
 MINIMAL = "a process traps under this schedule, and where any one step is left out none does:"
-# Of how many states it is asked whether processes can still end.
+# Of how many states it is asked which processes end.
 MOST_STATES_OF_ENDS = 20000
 
 
@@ -33,6 +38,12 @@ def told(status, answer, said):
     return (steps, traps[-1]) if are_told(steps, answer) and traps and not any(traps[:-1]) else ([], None)
 
 
+def process_told(answer):
+    """The process of which it is told that it doesn't meet its condition."""
+    found = re.search("process ([0-9]+) is not ", answer.get("says", ""))
+    return found and int(found[1])
+
+
 def shown(status, answer):
     return f"{status} {json.dumps(answer)[:200]}"
 
@@ -41,16 +52,20 @@ class Judge:
     """`ask` gives the status, and the answer as Python has it, to some words and the text of a program."""
 
     def __init__(self, ask, text, limit):
-        self.limit, program = limit, machine.Program(text)
-        self.ask = lambda *words: ask(words, text)
+        self.text, self.limit, program = text, limit, machine.Program(text)
+        self.ask = lambda *words, lines=b"": ask(words, text + lines)
         self.found = {steps: Search(program, getattr(machine, steps), limit) for steps in SAID}
+        # what comes of what is asked of ends, and how often
+        self.verdicts = collections.Counter()
 
     def wrong(self):
         for steps, found in self.found.items():
             yield from self.trap(steps, found) if found.traps else self.no_trap(steps, len(found.depth))
         yield from self.first()
         single, merged = self.found.values()
-        if not single.traps and len(single.depth) <= min(self.limit, MOST_STATES_OF_ENDS):
+        if single.traps:
+            yield from self.untouched(single.every)
+        elif len(single.depth) <= min(self.limit, MOST_STATES_OF_ENDS):
             yield from self.ends(single, len(merged.depth))
 
     def no_trap(self, steps, states):
@@ -90,36 +105,72 @@ class Judge:
         wanted = [(len(schedule), trap), *((len(steps), None) for steps in without)]
         return trap is not None and wanted == [self.found["single"].moves.replayed(it) for it in (schedule, *without)]
 
-    def ends(self, single, merged):
-        """What is answered otherwise of whether all processes end, the first, and the last: by single steps, by so many merged
-        states, which is what is asked first, and where one merged state less is allowed."""
-        every = single.every
-        for asked, option in ((every, "--ends"), (every[:1], "--ends=0"), (every[-1:], f"--ends={every[-1]}")):
-            stuck = single.stuck(asked)
-            for words, states in ((("--single",), len(single.depth)), (("--merged",), merged), ((), merged)):
-                found = self.ask(option, *words)
-                if not is_ending(single, asked, stuck, states, words == ("--single",), *found):
-                    yield f"{option} {' '.join(words)}: found {shown(*found)}"
-            status, answer = self.ask(option, "--limit", str(merged - 1))
+    def untouched(self, every):
+        """Where a process traps, that is told whatever lines ask of ends."""
+        question, *_ = by_lines(self.text, every)
+        limit = ("--limit", str(self.limit))
+        found = self.ask(*limit, lines=question.lines)
+        if found != self.ask(*limit):
+            yield f"{question.lines}: found {shown(*found)}"
+
+    def ends(self, search, merged):
+        """What is answered otherwise of who ends: by single steps, by so many merged states, which is what is asked first, and
+        where one merged state less is allowed."""
+        judge = Ends(search)
+        for question in (*by_options(search.every), *by_lines(self.text, search.every)):
+            self.verdicts[judge.verdict(question)] += 1
+            for words, states in (("--single",), len(search.depth)), (("--merged",), merged), ((), merged):
+                found = self.ask(*question.words, *words, lines=question.lines)
+                if not judge.is_right(question, states, words == ("--single",), *found):
+                    yield f"{' '.join((*question.words, *words))} {question.lines}: found {shown(*found)}"
+            status, answer = self.ask(*question.words, "--limit", str(merged - 1), lines=question.lines)
             if (status, answer["answer"], answer.get("states")) != (MORE, "limit", merged - 1):
-                yield f"{option}, limit {merged - 1}: found {shown(status, answer)}"
+                yield f"{' '.join(question.words)} {question.lines}, limit {merged - 1}: found {shown(status, answer)}"
 
 
-def is_ending(search, asked, stuck, states, is_shortest, status, answer):
-    """That an answer is right: nobody is stuck anywhere or goes on under a fair schedule, of so many states, or what is told
-    of it fits. By single steps no way to a loop is shorter, nor to where somebody is stuck."""
-    if not stuck and not search.goes_on(asked):
-        return (status, answer["answer"], answer.get("states")) == (SAFE, "ends", states)
-    if (status, answer["answer"]) != (STUCK, "stuck" if stuck else "endless") or not is_loop(search, asked, answer):
-        return False
-    schedule = steps_of(answer["schedule"])
-    end = search.led(schedule)
-    shortest = min(search.depth[state] for state in stuck or [end])
-    is_there = end in stuck if stuck else not answer.get("lead_in")
-    return is_there and (not is_shortest or len(schedule) == shortest)
+class Ends:
+    """Whether an answer of who ends is right, by the states of single steps."""
 
+    def __init__(self, search):
+        self.search = search
+        self.stuck, self.goes_on = functools.cache(search.stuck), functools.cache(search.goes_on)
+        self.for_ever = {
+            "not_wait_free": functools.cache(search.steps_for_ever), "not_alone": functools.cache(search.steps_alone_for_ever)}
 
-def is_loop(search, asked, answer):
-    """That what repeats can follow the schedule and the steps that lead on, and is a loop; all these steps are told."""
-    schedule, lead_in, cycle = (steps_of(answer.get(part, "")) for part in ("schedule", "lead_in", "cycle"))
-    return are_told(schedule + lead_in + cycle, answer) and search.is_loop(schedule + lead_in, cycle, asked)
+    def asked(self, question, condition):
+        return tuple(asked_for(question.asked.get(condition, "none"), self.search.every))
+
+    def verdict(self, question):
+        """The answer that is told first."""
+        fair = self.asked(question, "fair")
+        if self.stuck(fair) or self.goes_on(fair):
+            return "stuck" if self.stuck(fair) else "endless"
+        for answer, is_so in self.for_ever.items():
+            if any(map(is_so, self.asked(question, UNMET[answer].condition))):
+                return answer
+        return "ends" if question.words or set(question.asked.values()) - {"none"} else "safe"
+
+    def is_right(self, question, states, is_single, status, answer):
+        """Of so many states, or what is told fits. By single steps no way to where somebody is stuck is shorter, nor to a fair
+        loop."""
+        verdict, process = self.verdict(question), process_told(answer)
+        says = first_line(verdict, question.asked, states, is_single, process)
+        if verdict not in UNMET:
+            wanted = {"answer": verdict, "merged": not is_single, "never_lines": 0, "says": says, "states": states}
+            return (status, answer) == (SAFE, wanted)
+        if (status, answer["answer"], answer.get("says")) != (STUCK, verdict, says):
+            return False
+        schedule, lead_in, cycle = (steps_of(answer.get(part, "")) for part in ("schedule", "lead_in", "cycle"))
+        if not are_told(schedule + lead_in + cycle, answer) or (lead_in and verdict != "stuck"):
+            return False
+        asked, running = self.asked(question, UNMET[verdict].condition), self.search.running_in(schedule + lead_in, cycle)
+        if verdict in self.for_ever:
+            # (alone, a process makes all steps of its cycle)
+            return process in running.intersection(asked, cycle) and (verdict == "not_wait_free" or {process} == set(cycle))
+        return running.issubset(cycle) and not running.isdisjoint(asked) and self.is_led(schedule, self.stuck(asked), is_single)
+
+    def is_led(self, schedule, stuck, is_single):
+        """That a schedule leads to where somebody is stuck, if somebody is, and by single steps no shorter one leads there."""
+        end = self.search.led(schedule)
+        shortest = min(self.search.depth[state] for state in stuck or [end])
+        return (not stuck or end in stuck) and (not is_single or len(schedule) == shortest)

@@ -39,4 +39,5 @@ def small():
 
 def random():
     """These with their texts before their names, since they stand in no file."""
-    return [(f"{text.decode()}\nrandom program {number}", text) for number, text in enumerate(random_programs.texts(), 1)]
+    texts = [*random_programs.tries(), *random_programs.texts()]
+    return [(f"{text.decode()}\nrandom program {number}", text) for number, text in enumerate(texts, 1)]

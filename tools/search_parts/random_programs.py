@@ -2,10 +2,10 @@
 import re
 from random import Random
 
-HOW_MANY, SEED = 200, 1
+HOW_MANY, HOW_MANY_TRIES, SEED = 200, 120, 1
 
-# What each part may be, behind how often that is drawn.
-TABLE = """
+# What each part may be, behind how often that is drawn: of programs with all that the language has.
+ALL = """
 program: 3 processes 2 ; names begin first first some some last end
 program: 3 processes 2 ; names begin first first some some some last end
 program: 2 processes 2 ; names begin first some some some some some last end
@@ -36,12 +36,30 @@ risky: 1 ( 65536 * ( 65535 + variable ) )
 number: 2 0 | 4 1 | 1 2
 operator: 1 + | 1 - | 1 * | 1 / | 1 %
 """
+# The same of programs that wait, try again, or never get on.
+TRIES = """
+program: 4 processes 2 ; names begin tries end | 2 processes 3 ; names begin tries end | 2 processes 3 ; names begin helped end
+names: 1 var x , y , z ; scan s ; reg r , q ;
+tries: 2 try | 2 move try | 2 try move | 1 try try | 3 if me { tries } else { tries }
+tries: 2 if ( me == 1 ) { tries } else { tries } | 1 if me { move } else { tries } | 1 if me { while 1 { move } } else { tries }
+helped: 1 if ( me == 2 ) { put q 1 ; } else { if me { while ( y == 0 ) { move y = get q 2 ; } } else { try } }
+try: 2 while ( y == 0 ) { move y = get row process ; } | 2 while ( y == 0 ) { y = get row process ; }
+try: 3 while ( x == 0 ) { stamp ; s = scan ; x = older s process me ; }
+try: 4 x = 1 ; y = 0 ; while ( x != y ) { x = y ; y = get r process ; }
+try: 2 put r 1 ; y = get r process ; while y { put r 0 ; put r 1 ; y = get r process ; } put r 0 ;
+try: 2 put r 1 ; y = get r process ; while y { y = get r process ; } put r 0 ;
+try: 2 stamp ; y = 1 ; while y { s = scan ; y = older s process me ; x = held s process ; y = ( x * y ) ; } clear ;
+move: 2 put row number ; | 4 z = ( 1 - z ) ; put row z ; | 1 stamp ; | 1 clear ;
+row: 3 r | 1 q
+process: 3 ( ( me + 1 ) % n ) | 1 ( n - 1 ) | 1 0
+number: 1 0 | 3 1
+"""
 
 
-def texts():
+def texts(table=ALL, how_many=HOW_MANY):
     """Each with a line feed behind each statement and bracket."""
     random, parts = Random(SEED), {}
-    for part, _, lines in (line.partition(": ") for line in TABLE.strip().split("\n")):
+    for part, _, lines in (line.partition(": ") for line in table.strip().split("\n")):
         for times, *symbols in map(str.split, lines.split(" | ")):
             parts.setdefault(part, []).extend([symbols] * int(times))
 
@@ -51,4 +69,8 @@ def texts():
         # (of all that draws, this alone draws the same in each version of Python)
         return [word for inner in parts[symbol][int(random.random() * len(parts[symbol]))] for word in drawn(inner)]
 
-    return [re.sub("(?<=[;{}]) |(?<=begin) ", "\n", " ".join(drawn("program"))).encode() + b"\n" for _ in range(HOW_MANY)]
+    return [re.sub("(?<=[;{}]) |(?<=begin) ", "\n", " ".join(drawn("program"))).encode() + b"\n" for _ in range(how_many)]
+
+
+def tries():
+    return texts(TRIES, HOW_MANY_TRIES)

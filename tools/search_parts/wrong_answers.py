@@ -22,14 +22,18 @@ def with_steps(change, status=TRAPPED, part="schedule"):
     def changed(found, answer):
         if found != status or part not in answer:
             return found, answer
-        answer = {**answer, part: " ".join(map(str, change(steps_of(answer[part]))))}
-        steps = [step for name in ("schedule", "lead_in", "cycle") for step in steps_of(answer.get(name, ""))]
-        trace = [{"process": process, "step": number} for number, process in enumerate(steps, 1)]
-        if status == TRAPPED and trace:
-            trace[-1]["event"] = answer["trace"][-1]["event"]
-        return found, {**answer, "trace": trace}
+        last, answer = answer["trace"][-1:], traced({**answer, part: " ".join(map(str, change(steps_of(answer[part]))))})
+        if status == TRAPPED and answer["trace"]:
+            answer["trace"][-1]["event"] = last[0]["event"]
+        return found, answer
 
     return changed
+
+
+def traced(answer):
+    """The same answer with the steps that it has."""
+    steps = [step for part in ("schedule", "lead_in", "cycle") for step in steps_of(answer.get(part, ""))]
+    return {**answer, "trace": [{"process": process, "step": number} for number, process in enumerate(steps, 1)]}
 
 
 def turned(steps):

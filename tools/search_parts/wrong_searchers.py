@@ -3,6 +3,7 @@
 OLDER = "at(own.scans[taken], first) < at(own.scans[taken], second)"
 STAMP, HELD, METS = "max(shared.tickets) + 1", "at(own.scans[taken], process) != 0", "MET_BY = {"
 VALUES, PUT = "for expression in expressions]", "replaced(shared.rows[row], own.me, value)"
+RUNNING, WALKS = "running = (state for state in self.depth", "for state in self.depth:\n            walk"
 PRIVATE = ("=", "copy", "held", "if", "older", "out", "while")
 
 # By module.
@@ -51,6 +52,19 @@ WRONG = {
         ("the search goes on from the state that it saw last",
          "here = [after for state in here for after in self.further(state)]", "here += self.further(here.pop())"),
         ("all have ended where one has", "return all(self.moves.parts", "return any(self.moves.parts"),
+        ("who steps for ever does so alone", RUNNING, f"return self.steps_alone_for_ever(process)\n        {RUNNING}"),
+        ("who steps for ever lets nobody stop", RUNNING, f"return self.goes_on([process])\n        {RUNNING}"),
+        ("who has ended steps for ever", "if not self.has_ended(state, [process]))", "if True)"),
+        ("another steps for ever in place of one", "self.afters[state][process]] for", "self.afters[state][process - 1]] for"),
+        ("steps lead back wherever they lead", "for before in self.before[state] if", "for before in self.depth if"),
+        ("steps lead back nowhere", "for before in self.before[state] if", "for before in () if"),
+        ("who comes back alone has ended", "ends[state] = self.has_ended(state, [process])", "ends[state] = True"),
+        ("who steps alone does so from the start", WALKS, WALKS.replace("self.depth", "[self.moves.begun]")),
+        ("who steps alone ends or all do", "return not all(ends.values())", "return not any(ends.values())"),
+    ),
+    "search_parts/judging": (
+        ("who steps alone is told first", '"not_wait_free": functools', '"not_alone": 0, "not_wait_free": functools'),
+        ("who may not end fairly is told last", "if self.stuck(fair) or self.goes_on(fair):", "if self.stuck(fair):"),
     ),
 }
 CASES = [(what, module, old, new) for module, rows in WRONG.items() for what, old, new in rows]
