@@ -4,7 +4,7 @@ complete -c ticklab -f
 complete -c ticklab -n 'test (count (commandline -opc)) -eq 1' -s h -l help -d 'Print help'
 complete -c ticklab -n 'test (count (commandline -opc)) -eq 1' -s V -l version -d 'Print version'
 complete -c ticklab -n 'test (count (commandline -opc)) -eq 1' -a explore -d 'Looks under every schedule for one under which a process traps or a #! never line breaks, and then for a shortest one'
-complete -c ticklab -n 'test (count (commandline -opc)) -eq 1' -a check -d 'Explores each file, and compares the answer with its line #! expect: safe, trap, never or stuck; safe without one'
+complete -c ticklab -n 'test (count (commandline -opc)) -eq 1' -a check -d 'Explores each file, and compares the answer with what its line #! expect says; safe without one'
 complete -c ticklab -n 'test (count (commandline -opc)) -eq 1' -a lasso -d 'Says whether a cycle after a prefix can go on for ever, with a step of each process that runs there'
 complete -c ticklab -n 'test (count (commandline -opc)) -eq 1' -a hunt -d 'Tries random schedules until a process traps or a #! never line breaks, and shortens that schedule'
 complete -c ticklab -n 'test (count (commandline -opc)) -eq 1' -a trace -d 'Prints a line for each step of a run'

@@ -16,7 +16,7 @@ use std::alloc::{AllocError, Global};
 /// `ticklab check`.
 pub const CHECK: Description = Description {
     name: "check",
-    about: "Explores each file, and compares the answer with its line #! expect: safe, trap, never or stuck; safe without one",
+    about: "Explores each file, and compares the answer with what its line #! expect says; safe without one",
     example: "Example: ticklab check programs/",
     words: &[
         Several(
